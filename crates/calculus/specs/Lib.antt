@@ -1,0 +1,9 @@
+-- What a reader must believe about CoreChkC, in the order of "Typing", "Steps" and "How a run ends".
+pub mod Setting
+pub mod Expr
+pub mod Literal
+pub mod Typing
+pub mod Judge
+pub mod Steps
+pub mod Run
+pub mod Answers

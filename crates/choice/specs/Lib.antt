@@ -1,0 +1,2 @@
+-- What every crate's definitions are written with.
+pub mod Choice

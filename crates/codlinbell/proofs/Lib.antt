@@ -1,0 +1,2 @@
+-- The promises as theorems over the definitions.
+pub mod Worked

@@ -1,0 +1,72 @@
+-- The answer for an image, a lent heap and a limit: the refusal, with the heap as it was lent, or the run's result and the heap's
+-- final numbers.
+use Prim.Native.Nat.{ℕ}
+use mathlib.Core.List.{List}
+use Rattle.cells.specs.Heap.{Heap}
+use Rattle.cells.specs.Lent.{heapWords, lent}
+use Rattle.cells.specs.declared.Kind.{Kind}
+use Rattle.calculus.specs.Setting.{Setting}
+use Rattle.calculus.specs.Judge.{Verdict, good, bad, judged}
+use Rattle.calculus.specs.Run.{Result, run}
+use Rattle.calculus.specs.declared.Fault.{Fault}
+use Rattle.calculus.specs.declared.End.{End}
+use Rattle.calculus.specs.declared.End.the-variants.{Value, Null, Bounds, Room, Stuck, More}
+use Rattle.image.specs.Content.{Content, settingOf, heapOf}
+use Rattle.image.specs.Reading as reading
+use Rattle.image.specs.Image.{readImage}
+use Rattle.codlinbell.specs.declared.Answer.{Answer}
+use Rattle.codlinbell.specs.declared.Answer.the-variants.{Refused, Ran}
+use Rattle.codlinbell.specs.declared.Reading.{Reading}
+use Rattle.codlinbell.specs.declared.Reading.the-variants.{Number, Nothing}
+
+-- the answer, and the numbers of the lent heap
+pub record Answered : Type 0 where
+  pub answer : Answer
+  pub heap : List ℕ
+
+-- "On a refusal every heap word, beyond W too, is as it was."
+abbrev pub refusal : List ℕ → Fault → ℕ → Answered
+refusal ws f p = record { answer = Refused (record { fault = f; place = p }); heap = ws }
+
+-- the result of a run, with the heap's words in the lent numbers
+abbrev pub ran : List ℕ → Result → Answered
+ran ws r = record { answer = Ran (r .outcome); heap = lent (r .heap) ws }
+
+-- "Where no limit is named it is 100,000."
+abbrev pub defaultLimit : ℕ
+defaultLimit = 100000
+
+module _ (ws : List ℕ) where
+  -- the verdict on the content of an image
+  abbrev pub contentVerdict : Content → Verdict
+  contentVerdict c = judged (settingOf (heapWords ws) (c .tables)) (heapOf (heapWords ws) (c .cells)) (c .expr)
+
+  -- the run of the content of an image
+  abbrev pub contentRun : (limit : ℕ) → Content → Result
+  contentRun limit c = run (settingOf (heapWords ws) (c .tables)) limit (heapOf (heapWords ws) (c .cells)) (c .expr)
+
+  -- "Typing starts after the whole image is read."
+  abbrev pub judgedThen : Verdict → (Unit {0} → Result) → Answered
+  judgedThen (good κ) go = ran ws (go tt)
+  judgedThen (bad f i) go = refusal ws f i
+
+  abbrev pub readThen : (limit : ℕ) → reading.Reading Content → Answered
+  readThen limit (reading.got c next) = judgedThen (contentVerdict c) (λ _. contentRun limit c)
+  readThen limit (reading.refused f p) = refusal ws f p
+
+-- the answer to an image over lent heap numbers, with at most `limit` steps
+unfoldable pub answered : (image ws : List ℕ) (limit : ℕ) → Answered
+answered image ws limit = readThen ws limit (readImage (heapWords ws) image)
+
+-- "a Value gives its number as the reading. Every other end gives none."
+abbrev pub endReading : End → Reading
+endReading (Value c) = Number (c .value)
+endReading Null = Nothing
+endReading Bounds = Nothing
+endReading Room = Nothing
+endReading Stuck = Nothing
+endReading More = Nothing
+
+abbrev pub readingOf : Answer → Reading
+readingOf (Refused r) = Nothing
+readingOf (Ran o) = endReading (o .end)

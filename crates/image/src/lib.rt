@@ -1,0 +1,1 @@
+// The image: its definition of reading stands in specs/.
