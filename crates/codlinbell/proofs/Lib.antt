@@ -1,2 +1,3 @@
 -- The promises as theorems over the definitions.
+pub mod Promises
 pub mod Worked
