@@ -3,14 +3,12 @@ use Prim.Native.Nat.{ℕ, _≤_, _<_, _*_, _^_, min}
 use mathlib.Core.Path.{_≡_, refl, ap, subst, _∙_}
 use mathlib.Core.List.{List, [], _∷_}
 use native.Mathlib.Omega.{arith}
-use lib.ListN.{length, replicate, length-replicate}
-use Rattle.cells.specs.Heap.{Heap, update}
+use lib.ListN.{length}
+use Rattle.cells.specs.Heap.{Heap}
 use Rattle.cells.specs.Lent.{heapWords, lent}
-use Rattle.cells.proofs.Heaps.{length-update}
 use Rattle.cells.specs.declared.Kind.{Kind}
 use Rattle.cells.specs.declared.Cell.{Cell}
 use Rattle.cells.specs.declared.Mode.the-variants.{Checked}
-use Rattle.cells.specs.declared.HeapWord.the-variants.{Undefined}
 use Rattle.calculus.specs.Setting.{Setting, cell}
 use Rattle.calculus.specs.Expr.{operators}
 use Rattle.calculus.specs.Typing.{Typed, whole}
@@ -27,9 +25,10 @@ use Rattle.calculus.proofs.Counted.{Counts, counted}
 use Rattle.calculus.proofs.Refused.{FirstFault, refused-first}
 use Rattle.calculus.proofs.Blame.{Sized}
 use Rattle.calculus.proofs.Blameless.{GoodEnd, blameless}
-use Rattle.image.specs.Content.{Content, Placed, settingOf, heapOf, placed}
+use Rattle.image.specs.Content.{Content, settingOf, heapOf}
 use Rattle.image.specs.Reading as reading
 use Rattle.image.specs.Image.{readImage}
+use Rattle.codlinbell.proofs.Heaps.{heap-length}
 use Rattle.codlinbell.specs.Answered.{Answered, answered, refusal, ran, readThen, judgedThen, contentVerdict, contentRun, endReading, readingOf}
 use Rattle.codlinbell.specs.declared.Reading.the-variants.{Number}
 use Rattle.codlinbell.specs.declared.Answer.{Answer}
@@ -66,15 +65,6 @@ module _ (image ws : List ℕ) (limit : ℕ) where
   pub answered-right : Right image ws limit (answered image ws limit)
   unfolding answered
   answered-right = read-right (readImage (heapWords ws) image) refl
-
--- A content's heap has W words.
-placed-length : (ps : List Placed) (H : Heap) → length (placed ps H) ≡ length H
-unfolding placed
-placed-length [] H = refl
-placed-length (p ∷ ps) H = placed-length ps (update H (p .address) (p .held)) ∙ length-update H (p .address) (p .held)
-
-heap-length : (words : ℕ) (ps : List Placed) → length (heapOf words ps) ≡ words
-heap-length words ps = placed-length ps (replicate words Undefined) ∙ length-replicate words Undefined
 
 -- Malloc stays within the heap, and addresses are far below where sums wrap.
 pub sized : (ws : List ℕ) (c : Content) → Sized (settingIn ws c) (heapIn ws c)

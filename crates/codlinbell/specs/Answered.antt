@@ -24,13 +24,16 @@ pub record Answered : Type 0 where
   pub answer : Answer
   pub heap : List ℕ
 
+abbrev pub answering : Answer → List ℕ → Answered
+answering a ws = record { answer = a; heap = ws }
+
 -- "On a refusal every heap word, beyond W too, is as it was."
 abbrev pub refusal : List ℕ → Fault → ℕ → Answered
-refusal ws f p = record { answer = Refused (record { fault = f; place = p }); heap = ws }
+refusal ws f p = answering (Refused (record { fault = f; place = p })) ws
 
 -- the result of a run, with the heap's words in the lent numbers
 abbrev pub ran : List ℕ → Result → Answered
-ran ws r = record { answer = Ran (r .outcome); heap = lent (r .heap) ws }
+ran ws r = answering (Ran (r .outcome)) (lent (r .heap) ws)
 
 -- "Where no limit is named it is 100,000."
 abbrev pub defaultLimit : ℕ

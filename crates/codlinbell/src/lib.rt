@@ -1,4 +1,4 @@
-// The library's answers; their definitions stand in specs/.
+// Codlinbell: the answer to an image over a lent heap, its reading, the runner's line and the C interface.
 use calculus::Outcome;
 use calculus::Refusal;
 
@@ -13,3 +13,24 @@ pub enum Reading {
     Number(u64),
     Nothing,
 }
+
+mod ask;
+mod cases;
+mod host;
+mod line;
+mod out;
+mod place;
+mod readings;
+mod widths;
+
+pub use ask::DEFAULT_LIMIT;
+pub use ask::answer_to;
+pub use ask::answer_within;
+pub use cases::end_kind;
+pub use cases::end_number;
+pub use cases::end_value;
+pub use cases::fault_number;
+pub use host::codlinbell_answer;
+pub use line::write_line;
+pub use out::write_numbers;
+pub use readings::reading_of;

@@ -1,5 +1,5 @@
 -- What a reader must believe about images, in the order of "The image": how parts are read one after another, the tables, the
--- cells, the expression, and the whole.
+-- cells, the expression, and the whole; how it stands in lent tables of numbers; and what the code answers and leaves in those tables.
 pub mod Content
 pub mod Reading
 pub mod Tables
@@ -7,3 +7,8 @@ pub mod Cells
 pub mod Nodes
 pub mod Image
 pub mod Tabled
+pub mod Answers
+pub mod Tabling
+pub mod Filling
+pub mod Shape
+pub mod Loaded

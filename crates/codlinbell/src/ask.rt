@@ -1,0 +1,188 @@
+// The answer to an image over a lent heap: it is loaded into tables, judged, and run.
+ghost use Prim.Native.Nat.{ℕ, _≤_, _<_};
+ghost use mathlib.Core.Path.{_≡_};
+ghost use mathlib.Core.List.{List};
+ghost use lib.ListN.{length};
+ghost use Rattle.image.specs.Content.{Content};
+ghost use Rattle.codlinbell.specs.Answered.{answering, answered, ran, judgedThen, contentVerdict, contentRun, defaultLimit};
+ghost use Rattle.codlinbell.specs.Prepared.{Room, Prepared};
+ghost use Rattle.codlinbell.specs.declared.Answer;
+use crate::Answer;
+use crate::place::place_cells;
+use calculus::Outcome;
+use cells::clear;
+use cells::heap_words;
+use image::Loading;
+use image::load;
+use judge::Judged;
+use judge::judge_script;
+use machine::run;
+
+// The steps that a run may take where no limit is named.
+pub const DEFAULT_LIMIT: u64 = 100000;
+
+// The answer where no limit is named.
+pub fn answer_to(image: &[u8], heap: &mut [u64]) -> Answer
+    ensures { λ r. ⌜ answering r (now (heap .exit)) ≡ answered (now (image .entry)) (now (heap .entry)) defaultLimit ⌝ }
+{
+    answer_within(image, heap, DEFAULT_LIMIT)
+}
+
+// The answer to the image over the lent heap, with at most `limit` steps.
+pub fn answer_within(image: &[u8], heap: &mut [u64], limit: u64) -> Answer
+    ensures { λ r. ⌜ answering r (now (heap .exit)) ≡ answered (now (image .entry)) (now (heap .entry)) limit ⌝ }
+{
+    if image.len() <= 256 {
+        answer_short(heap, image, limit)
+    } else {
+        answer_long(heap, image, limit)
+    }
+}
+
+// A short image needs short tables only: clearing them is most of what a small script costs.
+fn answer_short(heap: &mut [u64], image: &[u8], limit: u64) -> Answer
+    requires { ⌜ length (now image) ≤ 256 ⌝ }
+    ensures { λ r. ⌜ answering r (now (heap .exit)) ≡ answered (now (image .entry)) (now (heap .entry)) limit ⌝ }
+{
+    let mut structs = [0u64; 544];
+    let mut types = [0u64; 256];
+    let mut cells = [0u64; 256];
+    let mut nodes = [0u64; 1024];
+    let mut marks = [0u64; 256];
+    let mut queue = [0u64; 256];
+    let mut bound = [0u64; 128];
+    let mut frames = [0u64; 256];
+    answer_in(
+        heap,
+        &mut structs,
+        &mut types,
+        &mut cells,
+        &mut nodes,
+        &mut marks,
+        &mut queue,
+        &mut bound,
+        &mut frames,
+        image,
+        limit,
+    )
+}
+
+// Tables for any image: 234 KiB.
+fn answer_long(heap: &mut [u64], image: &[u8], limit: u64) -> Answer
+    ensures { λ r. ⌜ answering r (now (heap .exit)) ≡ answered (now (image .entry)) (now (heap .entry)) limit ⌝ }
+{
+    let mut structs = [0u64; 544];
+    let mut types = [0u64; 256];
+    let mut cells = [0u64; 12288];
+    let mut nodes = [0u64; 8192];
+    let mut marks = [0u64; 4096];
+    let mut queue = [0u64; 4096];
+    let mut bound = [0u64; 128];
+    let mut frames = [0u64; 256];
+    answer_in(
+        heap,
+        &mut structs,
+        &mut types,
+        &mut cells,
+        &mut nodes,
+        &mut marks,
+        &mut queue,
+        &mut bound,
+        &mut frames,
+        image,
+        limit,
+    )
+}
+
+// The answer, with tables that are long enough for any content of the image.
+fn answer_in(
+    heap: &mut [u64],
+    structs: &mut [u64],
+    types: &mut [u64],
+    cells: &mut [u64],
+    nodes: &mut [u64],
+    marks: &mut [u64],
+    queue: &mut [u64],
+    bound: &mut [u64],
+    frames: &mut [u64],
+    image: &[u8],
+    limit: u64,
+) -> Answer
+    requires { ⌜ Room (now image) (now structs) (now types) (now cells) (now nodes) (now marks) (now queue) (now bound) (now frames) ⌝ }
+    ensures { λ r. ⌜ answering r (now (heap .exit)) ≡ answered (now (image .entry)) (now (heap .entry)) limit ⌝ }
+{
+    let words = heap_words(heap);
+    match load(image, words, structs, types, cells, nodes) {
+        Loading::Loaded(counts) => {
+            let s = 17 * counts.structs;
+            let t = counts.types;
+            let c = 3 * counts.cells;
+            let n = 4 * counts.nodes;
+            judge_and_run(
+                heap,
+                marks,
+                queue,
+                bound,
+                frames,
+                &structs[..s],
+                &types[..t],
+                &cells[..c],
+                &nodes[..n],
+                words,
+                limit,
+            )
+        }
+        Loading::Refused(refusal) => Answer::Refused(refusal),
+    }
+}
+
+// The content of the tables is judged, and run if it is accepted; if not, the heap stays as it is.
+fn judge_and_run(
+    heap: &mut [u64],
+    marks: &mut [u64],
+    queue: &mut [u64],
+    bound: &mut [u64],
+    frames: &mut [u64],
+    structs: &[u64],
+    types: &[u64],
+    cells: &[u64],
+    nodes: &[u64],
+    words: usize,
+    limit: u64,
+) -> Answer
+    ensures { λ r. ⌜ ((image : List ℕ) (c : Content) → Prepared image (now (heap .entry)) words c (now (structs .entry)) (now (types .entry)) (now (cells .entry)) (now (nodes .entry)) (now (marks .entry)) (now (queue .entry)) (now (bound .entry)) (now (frames .entry)) → answering r (now (heap .exit)) ≡ judgedThen (now (heap .entry)) (contentVerdict (now (heap .entry)) c) (λ _. contentRun (now (heap .entry)) limit c)) ⌝ }
+{
+    match judge_script(structs, types, cells, nodes, marks, queue, bound) {
+        Judged::Good(kind) => Answer::Ran(place_and_run(
+            heap,
+            bound,
+            frames,
+            structs,
+            types,
+            cells,
+            nodes,
+            words,
+            limit,
+        )),
+        Judged::Bad(refusal) => Answer::Refused(refusal),
+    }
+}
+
+// The content of the tables is run over its own heap.
+fn place_and_run(
+    heap: &mut [u64],
+    bound: &mut [u64],
+    frames: &mut [u64],
+    structs: &[u64],
+    types: &[u64],
+    cells: &[u64],
+    nodes: &[u64],
+    words: usize,
+    limit: u64,
+) -> Outcome
+    ensures { λ r. ⌜ ((image : List ℕ) (c : Content) (marks queue : List ℕ) → Prepared image (now (heap .entry)) words c (now (structs .entry)) (now (types .entry)) (now (cells .entry)) (now (nodes .entry)) marks queue (now (bound .entry)) (now (frames .entry)) → answering (Answer.Ran r) (now (heap .exit)) ≡ ran (now (heap .entry)) (contentRun (now (heap .entry)) limit c)) ⌝ }
+{
+    clear(heap, words);
+    place_cells(heap, cells);
+    run(heap, frames, bound, nodes, structs, types, words, limit)
+}

@@ -1,0 +1,82 @@
+-- Of kinds whose numbers are known: their numbers fit the code, so that kinds are the same exactly if their codes are.
+-- Assumes nothing.
+use mathlib.Core.Path.{_≡_, refl, _∙_}
+use mathlib.Core.Bool.{Bool, true, false}
+use mathlib.Core.List.{List, [], _∷_, map}
+use Prim.Native.Nat.{ℕ, zero, suc, _+_, _<_, _≤_}
+use native.Mathlib.Omega.{arith}
+use lib.Dec.{eqb}
+use lib.ListN.{length, getD}
+use borrow.Author.Tests.{eq-eqb, ne-eqb}
+use Rattle.cells.specs.Code.{packed, Small, small-int, small-word, small-struct, small-array}
+use Rattle.cells.specs.Same.{sameKind}
+use Rattle.cells.specs.declared.Mode.{Mode}
+use Rattle.cells.specs.declared.Kind.{Kind}
+use Rattle.cells.specs.declared.Kind.the-variants.{Int, Word, Struct, Array}
+use Rattle.cells.proofs.Codes.{packed-injective}
+use Rattle.calculus.specs.Expr.{Target, toWord, toStruct, toArray, pointer}
+use Rattle.image.specs.Tables.{isAmong}
+use Rattle.image.specs.Tabling.{amongFrom}
+use Rattle.image.proofs.Each.{Each, each-more}
+use Rattle.calculus.proofs.Same.{sameKind-true, sameKind-false, neither}
+
+-- a kind over S structs and the word types below n
+pub data Known (S n : ℕ) : Kind → Type 0 where
+  known-int : Known S n Int
+  known-word : {m : Mode} {i : ℕ} → i < n → Known S n (Word m i)
+  known-struct : {m : Mode} {s : ℕ} → s < S → Known S n (Struct m s)
+  known-array : {m : Mode} {k i : ℕ} → k < 65536 → i < n → Known S n (Array m k i)
+
+-- a target over them
+pub data KnownTarget (S n : ℕ) : Target → Type 0 where
+  to-word : {i : ℕ} → i < n → KnownTarget S n (toWord i)
+  to-struct : {s : ℕ} → s < S → KnownTarget S n (toStruct s)
+  to-array : {k i : ℕ} → k < 65536 → i < n → KnownTarget S n (toArray k i)
+
+pub known-pointer : {S n : ℕ} {ω : Target} (m : Mode) → KnownTarget S n ω → Known S n (pointer m ω)
+known-pointer m (to-word h) = known-word h
+known-pointer m (to-struct h) = known-struct h
+known-pointer m (to-array l h) = known-array l h
+
+lower : {a b c : ℕ} → a < b → b ≤ c → a < c
+lower p q = omega arith
+
+pub known-more : {S n n′ : ℕ} {κ : Kind} → n ≤ n′ → Known S n κ → Known S n′ κ
+known-more l known-int = known-int
+known-more l (known-word h) = known-word (lower h l)
+known-more l (known-struct h) = known-struct h
+known-more l (known-array k h) = known-array k (lower h l)
+
+pub known-small : {S n : ℕ} {κ : Kind} → S ≤ 256 → n ≤ 256 → Known S n κ → Small κ
+known-small s l known-int = small-int
+known-small s l (known-word h) = small-word (lower h l)
+known-small s l (known-struct h) = small-struct (lower h s)
+known-small s l (known-array k h) = small-array k (lower h l)
+
+-- kinds whose numbers fit are the same exactly if their codes are
+pub code-test : {κ τ : Kind} → Small κ → Small τ → eqb (packed κ) (packed τ) ≡ sameKind κ τ
+code-test {κ} {τ} s t = go (sameKind κ τ) refl
+  where
+    go : (b : Bool) → sameKind κ τ ≡ b → eqb (packed κ) (packed τ) ≡ b
+    go true e = eq-eqb (packed κ) (packed τ) (rw (sameKind-true κ τ e))
+    go false e = ne-eqb (packed κ) (packed τ) (λ p. sameKind-false κ τ e (packed-injective s t p))
+
+-- looking for a code among codes is looking for its kind among the kinds
+pub among-kinds : (t : List ℕ) (κ : Kind) (τs : List Kind) (i : ℕ) → Small κ → Each Small τs
+    → ((j : ℕ) → j < length τs → getD t (i + j) 0 ≡ getD (map packed τs) j 0) → amongFrom t (packed κ) i (length τs) ≡ isAmong κ τs
+unfolding amongFrom isAmong
+among-kinds t κ [] i s e h = refl
+among-kinds t κ (τ ∷ τs) i s (each-more q e) h =
+    let z : i + 0 ≡ i = omega arith in
+    let here : getD t i 0 ≡ packed τ = rw z at (h 0 (omega arith)) in
+    rw (here, code-test s q, among-kinds t κ τs (i + 1) s e (λ j l. next j ∙ h (suc j) (omega arith)))
+  where
+    next : (j : ℕ) → getD t (i + 1 + j) 0 ≡ getD t (i + suc j) 0
+    next j = let z : i + 1 + j ≡ i + suc j = omega arith in rw z
+
+-- a kind that is not among others is none of them
+pub not-among : (κ : Kind) (τs : List Kind) → isAmong κ τs ≡ false → (i : ℕ) → i < length τs → κ ≡ getD τs i Int → ⊥
+unfolding isAmong
+not-among κ [] e i h = λ _. absurd (omega arith)
+not-among κ (τ ∷ τs) e zero h = sameKind-false κ τ (neither (sameKind κ τ) (isAmong κ τs) e .0)
+not-among κ (τ ∷ τs) e (suc i) h = not-among κ τs (neither (sameKind κ τ) (isAmong κ τs) e .1) i (omega arith)

@@ -1,0 +1,24 @@
+-- What the proofs of this crate share, and what its callers want to know of what was read.
+pub mod Answered
+pub mod Gives
+pub mod Numbers
+pub mod Targets
+pub mod Turns
+pub mod CellLaws
+pub mod TableLaws
+pub mod Each
+pub mod Sets
+pub mod Fills
+pub mod KnownKinds
+pub mod TypeLaws
+pub mod StructLaws
+pub mod Lines
+pub mod Heads
+pub mod Within
+pub mod Tail
+pub mod Shapes
+pub mod Rows
+pub mod Alike
+pub mod Noded
+pub mod FrontLaws
+pub mod LoadLaws

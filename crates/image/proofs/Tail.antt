@@ -1,0 +1,66 @@
+-- The expression read in the part of the image behind an offset: what was answered there, carried back to whole-image offsets.
+-- Assumes nothing.
+use mathlib.Core.Path.{_≡_, refl}
+use mathlib.Core.List.{List, [], _∷_}
+use Prim.Native.Nat.{ℕ, _+_, _-_, _<_, _≤_}
+use native.Mathlib.Omega.{arith}
+use lib.ListN.{length, take, drop, length-drop}
+use lib.Seq.{take-all}
+use borrow.Author.Tests.{lt-ltb, le-ltb}
+use Rattle.calculus.specs.declared.Fault.the-variants as fault
+use Rattle.calculus.specs.declared.Refusal.{Refusal}
+use Rattle.numbers.specs.Reading.{groups}
+use Rattle.image.specs.Reading.{number}
+use Rattle.image.specs.Answers.{refusal}
+use Rattle.image.specs.Filling.{reading, headInto, nodeInto, expressionInto}
+use Rattle.image.specs.declared.Expression.{Expression}
+use Rattle.image.specs.declared.Expression.the-variants.{Read, Refused}
+use Rattle.image.proofs.Within.{read-within, refused-within}
+
+module _ (image : List ℕ) (at : ℕ) where
+  -- a part up to the end is all that is left
+  tail-whole : take (length image - at) (drop at image) ≡ drop at image
+  tail-whole = take-all (length image - at) (drop at image) (omega (arith, length-drop at image))
+
+  nothing-left : length image < at → drop at image ≡ []
+  nothing-left h = empty (drop at image) (omega (arith, length-drop at image))
+    where
+      empty : (l : List ℕ) → length l ≡ 0 → l ≡ []
+      empty [] e = refl
+      empty (x ∷ l) e = absurd (omega arith)
+
+module _ (image types : List ℕ) (structs at : ℕ) (t : List ℕ) where
+  -- an offset behind the image: it ends there
+  pub nothing-read : length image < at → reading (Refused (refusal fault.Ends at)) t ≡ expressionInto image types structs at t
+  unfolding expressionInto nodeInto headInto number groups
+  nothing-read h = let e : at + 0 ≡ at = omega arith in rw (nothing-left image at h, e)
+
+  -- the part is handed over as `take .. (drop ..)`
+  module _ {r : Expression} {t′ : List ℕ} (e : reading r t′ ≡ nodeInto (take (length image - at) (drop at image)) types structs 64 0 0 0 t) where
+    tail-read : reading r t′ ≡ nodeInto (drop at image) types structs 64 0 0 0 t
+    tail-read = rw (tail-whole image at) at e
+
+    pub end-within : {next count : ℕ} → r ≡ Read next count → next ≤ length image - at
+    end-within {next} q =
+        omega (arith, read-within (drop at image) types structs 64 0 0 0 t (omega arith) tail-read q, length-drop at image)
+
+    pub place-within : {q : Refusal} → r ≡ Refused q → q .place ≤ length image - at
+    place-within {q} p =
+        omega (arith, refused-within (drop at image) types structs 64 0 0 0 t (omega arith) tail-read p, length-drop at image)
+
+    -- bytes follow the expression
+    pub bytes-behind : {next count : ℕ} → r ≡ Read next count → at + next < length image
+        → reading (Refused (refusal fault.Behind (at + next))) t′ ≡ expressionInto image types structs at t
+    unfolding expressionInto
+    bytes-behind {next} q h = rw (← tail-read, q, lt-ltb (at + next) (length image) h)
+
+    pub none-behind : {next count : ℕ} → r ≡ Read next count → length image ≤ at + next
+        → reading (Read (at + next) count) t′ ≡ expressionInto image types structs at t
+    unfolding expressionInto
+    none-behind {next} q h = rw (← tail-read, q, le-ltb (at + next) (length image) h)
+
+    -- a refusal inside the part
+    pub refused-behind : {q : Refusal} → r ≡ Refused q
+        → reading (Refused (refusal (q .fault) (at + q .place))) t′ ≡ expressionInto image types structs at t
+    unfolding expressionInto
+    refused-behind q = rw (← tail-read, q)

@@ -1,0 +1,113 @@
+-- `image::loader::load` leaves in the tables and answers what `loadInto` says: what each reader leaves. Assumes nothing.
+use native.Mathlib.Omega.{arith}
+use Rattle.image.specs.Loaded.{loadInto}
+use Rattle.image.proofs.TableLaws.{front-value}
+use borrow.Author.Needs.{needs}
+use Rattle.image.proofs.loader.load.Statement.{statement}
+use Rattle.image.proofs.loader.load.Tie as tie
+
+read-front-requires : tie.Need-read-front-requires
+read-front-requires c κs = search needs
+
+enum-known-s : tie.Need-enum-known-s
+enum-known-s c = search needs
+
+add-known : tie.Need-add-known
+add-known c =
+    omega (arith, front-value _ _ _ _ _ (c .before .before .before .before .before .before .before .before .before .read-front .ensures) (c .before .s .given .1))
+
+read-tail-requires : tie.Need-read-tail-requires
+read-tail-requires c κs = search needs
+
+enum-known-end : tie.Need-enum-known-end
+enum-known-end c = search needs
+
+enum-known-refusal : tie.Need-enum-known-refusal
+enum-known-refusal c = search needs
+
+enum-known-refusal-2 : tie.Need-enum-known-refusal-2
+enum-known-refusal-2 c = search needs
+
+same-length : tie.Need-same-length
+same-length c = search needs
+
+same-length-2 : tie.Need-same-length-2
+same-length-2 c = search needs
+
+same-length-3 : tie.Need-same-length-3
+same-length-3 c = search needs
+
+same-length-4 : tie.Need-same-length-4
+same-length-4 c = search needs
+
+returns : tie.Need-returns
+unfolding loadInto
+returns c =
+    rw (
+      ← c .before .before .before .before .before .before .before .before .before .before .before .before .before .before .before .before .before .read-front .ensures,
+      c .before .before .before .before .before .before .before .before .before .s .given .1,
+      ← c .before .before .before .before .before .read-tail .ensures,
+      c .before .end .given .1,
+    )
+
+same-length-5 : tie.Need-same-length-5
+same-length-5 c = search needs
+
+same-length-6 : tie.Need-same-length-6
+same-length-6 c = search needs
+
+same-length-7 : tie.Need-same-length-7
+same-length-7 c = search needs
+
+same-length-8 : tie.Need-same-length-8
+same-length-8 c = search needs
+
+returns-2 : tie.Need-returns-2
+unfolding loadInto
+returns-2 c =
+    rw (
+      ← c .before .before .before .before .before .before .before .before .before .before .before .before .before .before .before .before .before .read-front .ensures,
+      c .before .before .before .before .before .before .before .before .before .s .given .1,
+      ← c .before .before .before .before .before .read-tail .ensures,
+      c .before .refusal .given .1,
+    )
+
+same-length-9 : tie.Need-same-length-9
+same-length-9 c = search needs
+
+same-length-10 : tie.Need-same-length-10
+same-length-10 c = search needs
+
+same-length-11 : tie.Need-same-length-11
+same-length-11 c = search needs
+
+returns-3 : tie.Need-returns-3
+unfolding loadInto
+returns-3 c =
+    rw (← c .before .before .before .before .before .before .before .before .before .read-front .ensures, c .before .refusal2 .given .1)
+
+pub load-spec : {M : Type 1} → statement M
+load-spec =
+    tie.close
+    (tie.spec
+    read-front-requires
+    enum-known-s
+    add-known
+    read-tail-requires
+    enum-known-end
+    enum-known-refusal
+    enum-known-refusal-2
+    same-length
+    same-length-2
+    same-length-3
+    same-length-4
+    returns
+    same-length-5
+    same-length-6
+    same-length-7
+    same-length-8
+    returns-2
+    same-length-9
+    same-length-10
+    same-length-11
+    returns-3)

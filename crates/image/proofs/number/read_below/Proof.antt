@@ -1,0 +1,47 @@
+-- `image::number::read_below` answers the number below a limit that the definition reads: the test opens `below`. Assumes nothing.
+use borrow.Author.Tests.{lt-ltb, le-ltb}
+use Rattle.image.specs.Reading.{number, below}
+use Rattle.image.proofs.Answered.{was-got, was-refused}
+use borrow.Author.Needs.{needs}
+use Rattle.image.proofs.number.read_below.Statement.{statement}
+use Rattle.image.proofs.number.read_below.Tie as tie
+
+read-limited-requires : tie.Need-read-limited-requires
+read-limited-requires c κs = search needs
+
+enum-known-value : tie.Need-enum-known-value
+enum-known-value c = search needs
+
+enum-known-refusal : tie.Need-enum-known-refusal
+enum-known-refusal c = search needs
+
+returns : tie.Need-returns
+unfolding below
+returns c =
+    rw (
+      was-got (number _ _) (c .before .before .before .before .read-limited .ensures) (c .before .before .value .given .1),
+      lt-ltb _ _ (c .if1 .taken),
+    )
+
+returns-2 : tie.Need-returns-2
+unfolding below
+returns-2 c =
+    rw (
+      was-got (number _ _) (c .before .before .before .before .read-limited .ensures) (c .before .before .value .given .1),
+      le-ltb _ _ (c .if1 .left),
+    )
+
+returns-3 : tie.Need-returns-3
+unfolding below
+returns-3 c = rw (was-refused (number _ _) (c .before .before .before .read-limited .ensures) (c .before .refusal .given .1))
+
+pub read-below-spec : {M : Type 1} → statement M
+read-below-spec =
+    tie.close
+    (tie.spec
+    read-limited-requires
+    enum-known-value
+    enum-known-refusal
+    returns
+    returns-2
+    returns-3)

@@ -1,0 +1,55 @@
+-- The loader as a function of the lent tables: the answer, and what the tables then hold, also where the image is refused; and what is
+-- answered of the content that the definition reads.
+use Prim.Native.Nat.{ℕ, _+_}
+use mathlib.Core.List.{List}
+use lib.ListN.{length, take}
+use Rattle.calculus.specs.Expr.{nodes}
+use Rattle.image.specs.Content.{Content}
+use Rattle.image.specs.Reading.{Reading, got, refused}
+use Rattle.image.specs.Answers.{refusal}
+use Rattle.image.specs.Tabling.{FrontFilled, frontInto}
+use Rattle.image.specs.Filling.{expressionInto}
+use Rattle.image.specs.declared.Opening.{Opening}
+use Rattle.image.specs.declared.Opening.the-variants as front
+use Rattle.image.specs.declared.Expression.{Expression}
+use Rattle.image.specs.declared.Expression.the-variants as expression
+use Rattle.image.specs.declared.Counts.{Counts}
+use Rattle.image.specs.declared.Loading.{Loading}
+use Rattle.image.specs.declared.Loading.the-variants.{Loaded, Refused}
+
+-- the answer and the tables
+pub record Lent : Type 0 where
+  pub result : Loading
+  pub structs : List ℕ
+  pub types : List ℕ
+  pub cells : List ℕ
+  pub nodes : List ℕ
+
+abbrev pub lent : Loading → (structs types cells nodes : List ℕ) → Lent
+lent r ss ts cs ns = record { result = r; structs = ss; types = ts; cells = cs; nodes = ns }
+
+abbrev pub counts : (structs types cells nodes : ℕ) → Counts
+counts S T C N = record { structs = S; types = T; cells = C; nodes = N }
+
+-- behind the expression
+abbrev pub exprAfter : (S T C : ℕ) → FrontFilled → Expression → List ℕ → Lent
+exprAfter S T C f (expression.Read next count) ns = lent (Loaded (counts S (T + 1) C count)) (f .structs) (f .types) (f .cells) ns
+exprAfter S T C f (expression.Refused q) ns = lent (Refused q) (f .structs) (f .types) (f .cells) ns
+
+-- behind the tables and the cells
+abbrev pub frontAfter : (image : List ℕ) → Opening → FrontFilled → List ℕ → Lent
+frontAfter image (front.Read S T C at) f ns =
+    exprAfter S T C f (expressionInto image (take (T + 1) (f .types)) S at ns .result) (expressionInto image (take (T + 1) (f .types)) S at ns .table)
+frontAfter image (front.Refused q) f ns = lent (Refused q) (f .structs) (f .types) (f .cells) ns
+
+unfoldable pub loadInto : (words : ℕ) (image : List ℕ) (structs types cells nodes : List ℕ) → Lent
+loadInto words image ss ts cs ns = frontAfter image (frontInto words image ss ts cs .result) (frontInto words image ss ts cs) ns
+
+-- the counts of a content
+abbrev pub countsOf : Content → Counts
+countsOf c = counts (length (c .tables .structs)) (length (c .tables .types)) (length (c .cells)) (nodes (c .expr))
+
+-- what is answered of a content, or of its refusal
+abbrev pub loading : Reading Content → Loading
+loading (got c next) = Loaded (countsOf c)
+loading (refused f p) = Refused (refusal f p)

@@ -1,0 +1,320 @@
+-- The judge over the node table is the executable judge of the expression that the table holds. The first bad literal is not passed: as
+-- long as a part is good, it lies behind the part.
+use mathlib.Core.Path.{_≡_, refl, sym, _∙_, ap}
+use mathlib.Core.Logic.{⊎-elim}
+use mathlib.Core.Bool.{Bool, true, false}
+use mathlib.Core.List.{List, [], _∷_}
+use Prim.Native.Nat.{ℕ, zero, suc, _+_, _*_, _-_, _/_, _≤_, _<_}
+use native.Mathlib.Nat.{eq-or-lt-of-le}
+use native.Mathlib.Numerals.{add-one}
+use native.Mathlib.Omega.{arith}
+use lib.Dec.{ltb}
+use lib.ListN.{length, length-set, getD, set}
+use lib.Seq.{getD-set-same, getD-set-other}
+use borrow.Author.Tests.{lt-ltb, le-ltb, ltb-true}
+use Rattle.choice.specs.Choice.{choose}
+use Rattle.cells.specs.Code.{packed, Small, small-int}
+use Rattle.cells.specs.Heap.{Heap}
+use Rattle.cells.specs.declared.Mode.{Mode}
+use Rattle.cells.specs.declared.Mode.the-variants.{Checked}
+use Rattle.cells.specs.declared.Kind.{Kind}
+use Rattle.cells.specs.declared.Kind.the-variants.{Int}
+use Rattle.cells.proofs.Codes.{round-trip}
+use Rattle.calculus.specs.Setting.{Setting, size}
+use Rattle.calculus.specs.Expr.{Expr, nodes, One, unchecked, cast, read, field, Two, assign, sum, Target, pointer}
+use Rattle.calculus.specs.Literal.{literalWell}
+use Rattle.calculus.specs.Typing.{Role, whole, access}
+use Rattle.calculus.specs.Judge as definition
+use Rattle.calculus.specs.Judge.{Verdict, good, bad, thenJudge, oneRole, twoRole, inside, judge}
+use Rattle.calculus.specs.declared.Fault.{Fault}
+use Rattle.calculus.specs.declared.Fault.the-variants.{NoRule, IllTyped}
+use Rattle.image.specs.Tabled.{oneCode, oneArgument, oneKind, twoCode, Row, Spans, s-lit, s-var, s-malloc, s-bind, s-one, s-two}
+use Rattle.judge.specs.Readied.{nested}
+use Rattle.image.specs.Shape.{SmallExpr, small-lit, small-var, small-malloc, small-bind, small-one, small-two, SmallOne, small-unchecked, small-cast, small-read, small-field}
+use Rattle.judge.specs.Tables.{rowAt, sizeOf}
+use Rattle.judge.specs.Rules as model
+use Rattle.judge.specs.Rules.{partsOf, isAccess, innerMode, innerLets, boundWith}
+use Rattle.judge.specs.Nodes.{Judging, judging, thenJudging, pairRule, judgeNode}
+use Rattle.judge.specs.declared.Told.{Told}
+use Rattle.judge.specs.declared.Told.the-variants as told
+use Rattle.judge.proofs.Tabled.{HoldsSetting}
+use Rattle.judge.proofs.Shapes.{size-of}
+use Rattle.judge.proofs.Passed.{wellAt, FirstBad}
+use Rattle.judge.proofs.Ruled.{Tells, tells-good, tells-bad, tells-if, access-tells, assign-tells, field-tells, cast-tells, sum-tells, access-sum-tells}
+
+-- ---- rows
+row-code : {t : List ℕ} {i code argument kind second : ℕ} → Row t i code argument kind second → rowAt t i 0 ≡ code
+row-code {i = i} r = let e : 4 * i + 0 ≡ 4 * i = omega arith in rw e (r .code-is)
+
+-- ---- the kinds of bound variables
+-- the list has the codes of the kinds in scope, the innermost last
+pub record Bounds (Γ : List Kind) (bound : List ℕ) : Type 0 where
+  pub codes : (k : ℕ) → k < length Γ → getD bound (length Γ - 1 - k) 0 ≡ packed (getD Γ k Int)
+  pub small : (k : ℕ) → Small (getD Γ k Int)
+
+pub bounds-none : (bound : List ℕ) → Bounds [] bound
+bounds-none bound = record { codes = λ k h. absurd (omega arith); small = λ k. small-int }
+
+bounds-more : {Γ : List Kind} {bound : List ℕ} {κ : Kind} → Bounds Γ bound → Small κ → length Γ < length bound
+    → Bounds (κ ∷ Γ) (set bound (length Γ) (packed κ))
+bounds-more {Γ} {bound} {κ} b s l = record { codes = codes; small = small }
+  where
+    codes : (k : ℕ) → k < length (κ ∷ Γ) → getD (set bound (length Γ) (packed κ)) (length (κ ∷ Γ) - 1 - k) 0 ≡ packed (getD (κ ∷ Γ) k Int)
+    codes zero h =
+        let e : length (κ ∷ Γ) - 1 - 0 ≡ length Γ = omega arith in
+        rw e (getD-set-same bound (length Γ) (packed κ) 0 l)
+    codes (suc k) h =
+        let e : length (κ ∷ Γ) - 1 - suc k ≡ length Γ - 1 - k = omega arith in
+        rw (e, getD-set-other bound (length Γ) (length Γ - 1 - k) (packed κ) 0 (λ f. omega arith)) (b .codes k (omega arith))
+
+    small : (k : ℕ) → Small (getD (κ ∷ Γ) k Int)
+    small zero = s
+    small (suc k) = b .small k
+
+bounds-less : {Γ : List Kind} {bound : List ℕ} {κ : Kind} → Bounds (κ ∷ Γ) bound → Bounds Γ bound
+bounds-less {Γ} {bound} {κ} b =
+    record {
+      codes = λ k h. let e : length (κ ∷ Γ) - 1 - suc k ≡ length Γ - 1 - k = omega arith in rw e at (b .codes (suc k) (omega arith));
+      small = λ k. b .small (suc k);
+    }
+
+-- ---- verdicts
+-- The code's verdict is the definition's; if it is good, what was judged ends at or before the first bad literal, and the list of bound
+-- kinds still has those in scope.
+pub data Meets (first : ℕ) (Γ : List Kind) (bound : List ℕ) (end : ℕ) : Verdict → Judging → Type 0 where
+  meets-good : {κ : Kind} {bound′ : List ℕ} → Small κ → Bounds Γ bound′ → length bound′ ≡ length bound → end ≤ first
+      → Meets first Γ bound end (good κ) (judging (told.Good (packed κ)) bound′)
+  meets-bad : {f : Fault} {i : ℕ} {bound′ : List ℕ}
+      → Meets first Γ bound end (bad f i) (judging (told.Bad (record { fault = f; place = i })) bound′)
+
+module _ {first : ℕ} {Γ : List Kind} {bound : List ℕ} {end : ℕ} where
+  -- a rule at the end
+  ruled : {v : Verdict} {t : Told} {bound′ : List ℕ} → Tells v t → Bounds Γ bound′ → length bound′ ≡ length bound → end ≤ first
+      → Meets first Γ bound end v (judging t bound′)
+  ruled (tells-good s) b l e = meets-good s b l e
+  ruled tells-bad b l e = meets-bad
+
+  -- go on with a part that is good
+  then-meets : {Γ′ : List Kind} {bound₀ : List ℕ} {end′ : ℕ} {v : Verdict} {j : Judging} (k : Kind → Verdict) (go : ℕ → List ℕ → Judging)
+      → Meets first Γ′ bound₀ end′ v j
+      → ((κ : Kind) (bound′ : List ℕ) → Small κ → Bounds Γ′ bound′ → length bound′ ≡ length bound₀ → end′ ≤ first
+      → Meets first Γ bound end (k κ) (go (packed κ) bound′))
+      → Meets first Γ bound end (thenJudge v k) (thenJudging j go)
+  then-meets k go (meets-good s b l e) f = f _ _ s b l e
+  then-meets k go meets-bad f = meets-bad
+
+-- ---- a node, opened by how many parts it has
+is-suc : (n : ℕ) → 0 < n → n ≡ suc (n - 1)
+is-suc n h = omega arith
+
+module _ (structs types table : List ℕ) (first left : ℕ) (as-access : Bool) (lets : ℕ) (m : Mode) (i : ℕ) (bound : List ℕ) (c : ℕ)
+    (is : rowAt table i 0 ≡ c) where
+  leaf-opened : partsOf c ≡ 0
+      → judgeNode structs types table first (suc left) as-access lets m i bound ≡ judging (model.leafRule bound structs table first lets i) bound
+  unfolding judgeNode
+  leaf-opened p = rw (is, p)
+
+  one-opened : partsOf c ≡ 1
+      → judgeNode structs types table first (suc left) as-access lets m i bound
+      ≡ thenJudging (judgeNode structs types table first left (isAccess c) lets (innerMode c m) (suc i) bound)
+      (λ x bound₁. judging (model.oneRule structs types table m i x) bound₁)
+  unfolding judgeNode
+  one-opened p = rw (is, p, add-one)
+
+  two-opened : partsOf c ≡ 2
+      → judgeNode structs types table first (suc left) as-access lets m i bound
+      ≡ thenJudging (judgeNode structs types table first left (isAccess c) lets (innerMode c m) (suc i) bound)
+      (λ x bound₁. thenJudging (judgeNode structs types table first left false (innerLets c lets) m (rowAt table i 3) (boundWith c lets x bound₁))
+      (λ y bound₂. judging (pairRule structs types table first as-access m i x y) bound₂))
+  unfolding judgeNode
+  two-opened p = rw (is, p, add-one i)
+
+-- ---- what is read off the codes of operations
+abbrev pub asAccess : Role → Bool
+asAccess whole = false
+asAccess access = true
+
+one-parts : (o : One) → partsOf (oneCode o) ≡ 1
+unfolding partsOf
+one-parts unchecked = refl
+one-parts (cast κ) = refl
+one-parts read = refl
+one-parts (field f) = refl
+
+one-role : (o : One) → isAccess (oneCode o) ≡ asAccess (oneRole o)
+one-role unchecked = refl
+one-role (cast κ) = refl
+one-role read = refl
+one-role (field f) = refl
+
+one-inside : (o : One) (m : Mode) → innerMode (oneCode o) m ≡ inside o m
+one-inside unchecked m = refl
+one-inside (cast κ) m = refl
+one-inside read m = refl
+one-inside (field f) m = refl
+
+one-some : (o : One) → oneCode o ≡ 0 → ⊥
+one-some unchecked e = omega arith
+one-some (cast κ) e = omega arith
+one-some read e = omega arith
+one-some (field f) e = omega arith
+
+two-parts : (o : Two) → partsOf (twoCode o) ≡ 2
+unfolding partsOf
+two-parts assign = refl
+two-parts sum = refl
+
+two-role : (o : Two) → isAccess (twoCode o) ≡ asAccess (twoRole o)
+two-role assign = refl
+two-role sum = refl
+
+two-inside : (o : Two) (m : Mode) → innerMode (twoCode o) m ≡ m
+two-inside assign m = refl
+two-inside sum m = refl
+
+two-lets : (o : Two) (lets : ℕ) → innerLets (twoCode o) lets ≡ lets
+two-lets assign lets = refl
+two-lets sum lets = refl
+
+two-bound : (o : Two) (lets x : ℕ) (bound : List ℕ) → boundWith (twoCode o) lets x bound ≡ bound
+two-bound assign lets x bound = refl
+two-bound sum lets x bound = refl
+
+two-some : (o : Two) → twoCode o ≡ 0 → ⊥
+two-some assign e = omega arith
+two-some sum e = omega arith
+
+-- ---- the induction
+module _ {S : Setting} {H : Heap} {structs types table : List ℕ} {first : ℕ} (hs : HoldsSetting S structs types)
+    (fb : FirstBad S H table first) where
+  -- a node that is no literal is not the first bad one
+  beyond : (i c : ℕ) → rowAt table i 0 ≡ c → (c ≡ 0 → ⊥) → i < length table / 4 → i ≤ first → suc i ≤ first
+  beyond i c e n l h =
+      ⊎-elim (λ f. absurd (n (sym e ∙ rw f (fb .literal (rw f at l))))) (λ k. k) (eq-or-lt-of-le h)
+
+  module _ (Γ : List Kind) (bound : List ℕ) (m : Mode) (i : ℕ) (b : Bounds Γ bound) (l : i < length table / 4) (h : i ≤ first) where
+    literal-meets : {n : ℕ} {κ : Kind} → Row table i 0 n (packed κ) 0 → Small κ
+        → Meets first Γ bound (i + 1) (choose (literalWell S H n κ) (λ _. good κ) (λ _. bad IllTyped i))
+        (judging (model.leafRule bound structs table first (length Γ) i) bound)
+    unfolding model.leafRule model.literalRule
+    literal-meets {n} {κ} r s =
+        let t : wellAt S H table i ≡ literalWell S H n κ = rw (r .argument-is, r .kind-is, round-trip s) in
+        ⊎-elim
+        (λ f. let w : literalWell S H n κ ≡ false = sym t ∙ rw f (fb .bad (rw f at l)) in
+        rw (row-code r, w, le-ltb i first (omega arith)) meets-bad)
+        (λ k. let w : literalWell S H n κ ≡ true = sym t ∙ fb .before i k (row-code r) in
+        rw (row-code r, w, lt-ltb i first k, r .kind-is) (meets-good s b refl (omega arith)))
+        (eq-or-lt-of-le h)
+
+    variable-meets : {k : ℕ} → Row table i 1 k 0 0
+        → Meets first Γ bound (i + 1) (choose (ltb k (length Γ)) (λ _. good (getD Γ k Int)) (λ _. bad NoRule i))
+        (judging (model.leafRule bound structs table first (length Γ) i) bound)
+    unfolding model.leafRule model.variableRule
+    variable-meets {k} r = rw (row-code r, r .argument-is) (go (ltb k (length Γ)) refl)
+      where
+        go : (t : Bool) → ltb k (length Γ) ≡ t
+            → Meets first Γ bound (i + 1) (choose t (λ _. good (getD Γ k Int)) (λ _. bad NoRule i))
+            (judging (choose t (λ _. told.Good (getD bound (length Γ - 1 - k) 0)) (λ _. model.noRule i)) bound)
+        go true e =
+            rw (b .codes k (ltb-true k (length Γ) e))
+            (meets-good (b .small k) b refl (omega (arith, beyond i 1 (row-code r) (λ z. omega arith) l h)))
+        go false e = meets-bad
+
+    malloc-meets : (ω : Target) → Row table i 3 0 (packed (pointer Checked ω)) 0 → Small (pointer Checked ω)
+        → Meets first Γ bound (i + 1) (choose (ltb 0 (size S (pointer Checked ω))) (λ _. good (pointer Checked ω)) (λ _. bad NoRule i))
+        (judging (model.leafRule bound structs table first (length Γ) i) bound)
+    unfolding model.leafRule model.mallocRule
+    malloc-meets ω r s =
+        let z : sizeOf structs (packed (pointer Checked ω)) ≡ size S (pointer Checked ω) =
+        size-of hs (packed (pointer Checked ω)) ∙ ap (size S) (round-trip s) in
+        rw (row-code r, r .kind-is, z)
+        (ruled (tells-if (ltb 0 (size S (pointer Checked ω))) (pointer Checked ω) i (λ _. s)) b refl
+        (omega (arith, beyond i 3 (row-code r) (λ e. omega arith) l h)))
+
+  -- the rules at a node
+  one-tells : (m : Mode) (i : ℕ) {o : One} {κ : Kind} → SmallOne o → Row table i (oneCode o) (oneArgument o) (oneKind o) 0 → Small κ
+      → Tells (definition.oneRule S m i o κ) (model.oneRule structs types table m i (packed κ))
+  unfolding model.oneRule
+  one-tells m i small-unchecked r s = rw (row-code r) (tells-good s)
+  one-tells m i {κ = κ} (small-cast t) r s = rw (row-code r, r .kind-is) (cast-tells hs m i t κ)
+  one-tells m i small-read r s = rw (row-code r) (access-tells hs m i s)
+  one-tells m i (small-field {f}) r s = rw (row-code r, r .argument-is) (field-tells hs m i f s)
+
+  two-tells : (m : Mode) (i : ℕ) (o : Two) (role : Role) {second : ℕ} {κ κ′ : Kind} → Row table i (twoCode o) 0 0 second → Small κ → Small κ′
+      → Tells (definition.twoRule S m i role o κ κ′) (pairRule structs types table first (asAccess role) m i (packed κ) (packed κ′))
+  unfolding pairRule model.twoRule
+  two-tells m i assign whole r s s′ = rw (row-code r) (assign-tells hs m i whole s s′)
+  two-tells m i assign access r s s′ = rw (row-code r) (assign-tells hs m i access s s′)
+  two-tells m i sum whole r s s′ = rw (row-code r) (sum-tells S m i s s′)
+  two-tells m i sum access r s s′ = rw (row-code r) (access-sum-tells S m i s s′)
+
+  -- a let has the type of its body
+  let-told : (m : Mode) (i : ℕ) (as-access : Bool) {second : ℕ} (x y : ℕ) → Row table i 2 0 0 second
+      → pairRule structs types table first as-access m i x y ≡ told.Good y
+  unfolding pairRule model.twoRule
+  let-told m i true x y r = rw (row-code r)
+  let-told m i false x y r = rw (row-code r)
+
+  let-meets : (m : Mode) (i : ℕ) (as-access : Bool) (x : ℕ) {second end end′ : ℕ} {Γ : List Kind} {κ : Kind} {bound bound₁ : List ℕ} {v : Verdict} {j : Judging}
+      → Row table i 2 0 0 second → length bound₁ ≡ length bound → Meets first (κ ∷ Γ) bound₁ end v j → end′ ≤ end
+      → Meets first Γ bound end′ v (thenJudging j (λ y bound₂. judging (pairRule structs types table first as-access m i x y) bound₂))
+  let-meets m i as-access x r k (meets-good {κ = ε} s b l e) h =
+      rw (let-told m i as-access x (packed ε) r) (meets-good s (bounds-less b) (l ∙ k) (omega arith))
+  let-meets m i as-access x r k meets-bad h = meets-bad
+
+  pub meets : {i : ℕ} {e : Expr} → Spans table i e → SmallExpr e → (role : Role) (Γ : List Kind) (m : Mode) (left : ℕ) (bound : List ℕ)
+      → nodes e ≤ left → i + nodes e ≤ length table / 4 → i ≤ first → Bounds Γ bound → length Γ + nested e ≤ length bound
+      → Meets first Γ bound (i + nodes e) (judge S H role Γ m i e) (judgeNode structs types table first left (asAccess role) (length Γ) m i bound)
+  unfolding judge nodes nested partsOf
+  meets (s-lit {i} r) (small-lit s) role Γ m left bound n l h b d =
+      rw (is-suc left n, leaf-opened structs types table first (left - 1) (asAccess role) (length Γ) m i bound 0 (row-code r) refl)
+      (literal-meets Γ bound m i b (omega arith) h r s)
+  meets (s-var {i} r) small-var role Γ m left bound n l h b d =
+      rw (is-suc left n, leaf-opened structs types table first (left - 1) (asAccess role) (length Γ) m i bound 1 (row-code r) refl)
+      (variable-meets Γ bound m i b (omega arith) h r)
+  meets (s-malloc {i} {ω} r) (small-malloc s) role Γ m left bound n l h b d =
+      rw (is-suc left n, leaf-opened structs types table first (left - 1) (asAccess role) (length Γ) m i bound 3 (row-code r) refl)
+      (malloc-meets Γ bound m i b (omega arith) h ω r s)
+  meets (s-bind {i} {a} {b = e} r p q) (small-bind s t) role Γ m left bound n l h b d =
+      rw (
+        is-suc left (omega arith),
+        two-opened structs types table first (left - 1) (asAccess role) (length Γ) m i bound 2 (row-code r) refl,
+      )
+      (then-meets (λ κ. judge S H whole (κ ∷ Γ) m (suc i + nodes a) e)
+      (λ x bound₁. thenJudging (judgeNode structs types table first (left - 1) false (innerLets 2 (length Γ)) m (rowAt table i 3) (boundWith 2 (length Γ) x bound₁))
+      (λ y bound₂. judging (pairRule structs types table first (asAccess role) m i x y) bound₂))
+      (meets p s whole Γ m (left - 1) bound (omega arith) (omega arith) (beyond i 2 (row-code r) (λ z. omega arith) (omega arith) h) b (omega arith))
+      (λ κ bound₁ w b₁ k e₁. rw (r .second-is, add-one (length Γ))
+      (let-meets m i (asAccess role) (packed κ) r (length-set bound₁ (length Γ) (packed κ) ∙ k)
+      (meets q t whole (κ ∷ Γ) m (left - 1) (set bound₁ (length Γ) (packed κ)) (omega arith) (omega arith) e₁
+      (bounds-more b₁ w (omega arith)) (rw length-set (omega arith)))
+      (omega arith))))
+  meets (s-one {i} {o} {e} r p) (small-one t s) role Γ m left bound n l h b d =
+      rw (
+        is-suc left (omega arith),
+        one-opened structs types table first (left - 1) (asAccess role) (length Γ) m i bound (oneCode o) (row-code r) (one-parts o),
+        one-role o,
+        one-inside o m,
+      )
+      (then-meets (definition.oneRule S m i o) (λ x bound₁. judging (model.oneRule structs types table m i x) bound₁)
+      (meets p s (oneRole o) Γ (inside o m) (left - 1) bound (omega arith) (omega arith)
+      (beyond i (oneCode o) (row-code r) (one-some o) (omega arith) h) b d)
+      (λ κ bound₁ w b₁ k e₁. ruled (one-tells m i t r w) b₁ k (omega arith)))
+  meets (s-two {i} {o} {a} {b = e} r p q) (small-two s t) role Γ m left bound n l h b d =
+      rw (
+        is-suc left (omega arith),
+        two-opened structs types table first (left - 1) (asAccess role) (length Γ) m i bound (twoCode o) (row-code r) (two-parts o),
+        two-role o,
+        two-inside o m,
+      )
+      (then-meets (λ κ. thenJudge (judge S H whole Γ m (suc i + nodes a) e) (definition.twoRule S m i role o κ))
+      (λ x bound₁. thenJudging
+      (judgeNode structs types table first (left - 1) false (innerLets (twoCode o) (length Γ)) m (rowAt table i 3) (boundWith (twoCode o) (length Γ) x bound₁))
+      (λ y bound₂. judging (pairRule structs types table first (asAccess role) m i x y) bound₂))
+      (meets p s (twoRole o) Γ m (left - 1) bound (omega arith) (omega arith)
+      (beyond i (twoCode o) (row-code r) (two-some o) (omega arith) h) b (omega arith))
+      (λ κ bound₁ w b₁ k e₁. rw (two-lets o (length Γ), two-bound o (length Γ) (packed κ) bound₁, r .second-is)
+      (then-meets (definition.twoRule S m i role o κ)
+      (λ y bound₂. judging (pairRule structs types table first (asAccess role) m i (packed κ) y) bound₂)
+      (meets q t whole Γ m (left - 1) bound₁ (omega arith) (omega arith) e₁ b₁ (omega arith))
+      (λ κ′ bound₂ w′ b₂ k₂ e₂. ruled (two-tells m i o role r w w′) b₂ (k₂ ∙ k) (omega arith)))))

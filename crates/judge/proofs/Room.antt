@@ -1,0 +1,132 @@
+-- The queue ends within its numbers and keeps its length, whatever is looked at; and words that are found present lie within the table.
+use mathlib.Core.Path.{_≡_, refl, _∙_}
+use mathlib.Core.Bool.{Bool, true, false}
+use mathlib.Core.List.{List}
+use Prim.Native.Nat.{ℕ, zero, suc, _+_, _-_, _≤_, _<_}
+use native.Mathlib.Omega.{arith}
+use lib.Dec.{eqb, ltb, leb}
+use lib.ListN.{length, length-set, getD, set}
+use borrow.Author.Tests.{ltb-true, leb-false}
+use Rattle.choice.specs.Choice.{choose, choose-case}
+use Rattle.judge.specs.Tables.{entryAt, rowAt}
+use Rattle.judge.specs.Find.{present, covered, entries, lowestFrom}
+use Rattle.judge.specs.Marks.{Seen, seen, marked, markedAll}
+use Rattle.judge.specs.Literals.{Looking, on, off, span, agrees, look, drain, literal, nodeLook, thenLook}
+
+-- a property of a choice, with the test's outcome in hand
+pub choose-told : {A : Type 0} (P : A → Type 0) (t : Bool) (a b : Unit {0} → A) → (t ≡ true → P (a tt)) → (t ≡ false → P (b tt))
+    → P (choose t a b)
+choose-told P true a b p q = p refl
+choose-told P false a b p q = q refl
+
+-- ---- the words that are found
+-- the `more` words behind entry j are in the table
+pub record Fits (cells : List ℕ) (more j : ℕ) : Type 0 where
+  pub fits : (j ≡ entries cells → ⊥) → j + more < entries cells
+
+present-fits : (cells : List ℕ) (n j address more : ℕ) → present cells n j address more ≡ true → j + more < n
+unfolding present
+present-fits cells n j address more = go (leb n j) (leb (n - j) more) (leb-false n j) (leb-false (n - j) more)
+  where
+    go : (s t : Bool) → (s ≡ false → j < n) → (t ≡ false → more < n - j)
+        → (choose s (λ _. false) λ _.
+        choose t (λ _. false) λ _.
+        choose (eqb (entryAt cells j 0) address) (λ _. eqb (entryAt cells (j + more) 0 - address) more) (λ _. false)) ≡ true
+        → j + more < n
+    go true t f g e = absurd (let z : _≡_ {A = ℕ} 0 1 = cc in omega arith)
+    go false true f g e = absurd (let z : _≡_ {A = ℕ} 0 1 = cc in omega arith)
+    go false false f g e = omega (arith, f refl, g refl)
+
+pub covered-fits : (cells : List ℕ) (address more : ℕ) → Fits cells more (covered cells address more)
+unfolding covered
+covered-fits cells address more =
+    let j : ℕ = lowestFrom cells address (entries cells) 0 (entries cells) in
+    choose-told (Fits cells more) (present cells (entries cells) j address more) (λ _. j) (λ _. entries cells)
+    (λ t. record { fits = λ _. present-fits cells (entries cells) j address more t })
+    (λ _. record { fits = λ n. absurd (n refl) })
+
+-- ---- the queue
+-- from s to s′: the queue is as long as it was, and ends within it if it did
+pub record Keeps (s s′ : Seen) : Type 0 where
+  pub long : length (s′ .queue) ≡ length (s .queue)
+  pub ends : s .tail ≤ length (s .queue) → s′ .tail ≤ length (s′ .queue)
+
+keeps-none : (s : Seen) → Keeps s s
+keeps-none s = record { long = refl; ends = λ h. h }
+
+keeps-then : {s s′ s″ : Seen} → Keeps s s′ → Keeps s′ s″ → Keeps s s″
+keeps-then k l = record { long = l .long ∙ k .long; ends = λ h. l .ends (k .ends h) }
+
+keeps-marked : (j : ℕ) (s : Seen) → Keeps s (marked j s)
+unfolding marked
+keeps-marked j s =
+    choose-case (Keeps s) (eqb (getD (s .marks) j 0) 0)
+    (λ _. choose (ltb (s .tail) (length (s .queue))) (λ _. seen (set (s .marks) j 1) (set (s .queue) (s .tail) j) (s .tail + 1)) (λ _. s))
+    (λ _. s)
+    (choose-told (Keeps s) (ltb (s .tail) (length (s .queue))) (λ _. seen (set (s .marks) j 1) (set (s .queue) (s .tail) j) (s .tail + 1)) (λ _. s)
+    (λ t. record { long = simp length-set; ends = λ _. simp length-set (omega (arith, ltb-true (s .tail) (length (s .queue)) t)) })
+    (λ _. keeps-none s))
+    (keeps-none s)
+
+pub keeps-all : (count first : ℕ) (s : Seen) → Keeps s (markedAll count first s)
+unfolding markedAll
+keeps-all zero first s = keeps-none s
+keeps-all (suc count) first s = keeps-then (keeps-marked first s) (keeps-all count (first + 1) (marked first s))
+
+-- what is seen behind a look keeps it so
+pub data After (s : Seen) : Looking → Type 0 where
+  after-on : {s′ : Seen} → Keeps s s′ → After s (on s′)
+  after-off : {marks queue : List ℕ} → After s (off marks queue)
+
+then-after : {s : Seen} (l : Looking) (go : Seen → Looking) → After s l → ((s′ : Seen) → After s′ (go s′)) → After s (thenLook l go)
+then-after (on s′) go (after-on k) f = more k (go s′) (f s′)
+  where
+    more : {s s′ : Seen} → Keeps s s′ → (l : Looking) → After s′ l → After s l
+    more k (on s″) (after-on l) = after-on (keeps-then k l)
+    more k (off marks queue) after-off = after-off
+then-after (off marks queue) go after-off f = after-off
+
+module _ (structs types cells : List ℕ) where
+  pub look-after : (value code : ℕ) (s : Seen) → After s (look structs types cells value code s)
+  unfolding look
+  look-after value code s =
+      let k : ℕ = span structs value code in
+      let j : ℕ = covered cells value (k - 1) in
+      choose-case (After s) (eqb k 0) (λ _. on s)
+      (λ _. choose (eqb j (entries cells)) (λ _. off (s .marks) (s .queue)) λ _.
+      choose (agrees structs types cells code j k 0) (λ _. on (markedAll k j s)) (λ _. off (s .marks) (s .queue)))
+      (after-on (keeps-none s))
+      (choose-case (After s) (eqb j (entries cells)) (λ _. off (s .marks) (s .queue))
+      (λ _. choose (agrees structs types cells code j k 0) (λ _. on (markedAll k j s)) (λ _. off (s .marks) (s .queue)))
+      after-off
+      (choose-case (After s) (agrees structs types cells code j k 0) (λ _. on (markedAll k j s)) (λ _. off (s .marks) (s .queue))
+      (after-on (keeps-all k j s))
+      after-off))
+
+  pub drain-after : (deep head : ℕ) (s : Seen) → After s (drain structs types cells deep head s)
+  unfolding drain
+  drain-after zero head s = after-on (keeps-none s)
+  drain-after (suc deep) head s =
+      choose-case (After s) (ltb head (s .tail))
+      (λ _. thenLook (look structs types cells (entryAt cells (getD (s .queue) head 0) 1) (entryAt cells (getD (s .queue) head 0) 2) s) (drain structs types cells deep (head + 1)))
+      (λ _. on s)
+      (then-after _ _ (look-after _ _ s) (drain-after deep (head + 1)))
+      (after-on (keeps-none s))
+
+  pub literal-after : (value code : ℕ) (s : Seen) → After s (literal structs types cells value code s)
+  unfolding literal
+  literal-after value code s = then-after _ _ (look-after value code s) (drain-after (length (s .queue)) (s .tail))
+
+  pub node-after : (nodes : List ℕ) (i : ℕ) (s : Seen) → After s (nodeLook structs types cells nodes i s)
+  unfolding nodeLook
+  node-after nodes i s =
+      choose-case (After s) (eqb (rowAt nodes i 0) 0) (λ _. literal structs types cells (rowAt nodes i 1) (rowAt nodes i 2) s) (λ _. on s)
+      (literal-after (rowAt nodes i 1) (rowAt nodes i 2) s)
+      (after-on (keeps-none s))
+
+-- the answer's queue ends within it
+pub ends-within : (s s′ : Seen) (l : Looking) → After s l → on s′ ≡ l → s .tail ≤ length (s .queue) → s′ .tail ≤ length (s′ .queue)
+ends-within s s′ l a e h = go (rw (← e) at a)
+  where
+    go : After s (on s′) → s′ .tail ≤ length (s′ .queue)
+    go (after-on k) = k .ends h

@@ -1,0 +1,92 @@
+-- The literal check as the code goes about it: a literal's words are looked for and marked, what was marked is looked at in turn, and
+-- the pass ends at the first literal that is off.
+use Prim.Native.Nat.{ℕ, zero, suc, _+_, _-_, _/_, _%_}
+use mathlib.Core.Bool.{Bool}
+use mathlib.Core.List.{List}
+use lib.Dec.{eqb, ltb}
+use lib.ListN.{length, getD, replicate}
+use Rattle.choice.specs.Choice.{choose, allFrom}
+use Rattle.cells.specs.Code.{numberIn}
+use Rattle.judge.specs.Tables.{rowAt, entryAt, fieldAt, codeOf, tagIn, sizeOf}
+use Rattle.judge.specs.Find.{entries, covered}
+use Rattle.judge.specs.Marks.{Seen, seen, markedAll}
+use Rattle.judge.specs.declared.Looked.{Looked}
+use Rattle.judge.specs.declared.Looked.the-variants.{On, Off}
+
+-- what was seen, or the marks and the queue where a word was off
+pub data Looking : Type 0 where
+  on : Seen → Looking
+  off : List ℕ → List ℕ → Looking
+
+-- the code's answer with the lent lists
+abbrev pub looking : Looked → List ℕ → List ℕ → Looking
+looking (On tail) marks queue = on (seen marks queue tail)
+looking Off marks queue = off marks queue
+
+abbrev pub thenLook : Looking → (Seen → Looking) → Looking
+thenLook (on s) go = go s
+thenLook (off marks queue) go = off marks queue
+
+-- how many words a literal needs: those that its target covers, if it is a checked pointer other than 0
+unfoldable pub span : (structs : List ℕ) (value code : ℕ) → ℕ
+span structs value code =
+    choose (eqb value 0) (λ _. 0) λ _. choose (eqb (code % 2) 0) (λ _. sizeOf structs code) (λ _. 0)
+
+-- the code that a pointer's i-th word has to have
+unfoldable pub claim : (structs types : List ℕ) (code i : ℕ) → ℕ
+claim structs types code i =
+    choose (eqb (tagIn code) 2) (λ _. codeOf types (fieldAt structs (numberIn code) i)) (λ _. codeOf types (numberIn code))
+
+-- the first of the literals that are off, or the count of nodes, and the lent lists
+pub record Found : Type 0 where
+  pub first : ℕ
+  pub marks : List ℕ
+  pub queue : List ℕ
+
+abbrev pub found : ℕ → List ℕ → List ℕ → Found
+found first marks queue = record { first = first; marks = marks; queue = queue }
+
+-- go on with the next node, unless this one, i, is off
+abbrev pub thenNext : ℕ → Looking → (Seen → Found) → Found
+thenNext i (on s) go = go s
+thenNext i (off marks queue) go = found i marks queue
+
+module _ (structs types cells : List ℕ) where
+  -- `count` entries from `first` on, counted from i, have the codes that a pointer claims
+  abbrev pub agrees : (code first count i : ℕ) → Bool
+  agrees code first count i = allFrom (λ k. eqb (entryAt cells (first + k) 2) (claim structs types code k)) count i
+
+  -- the words that a literal needs are there and have the codes claimed: then they are seen
+  unfoldable pub look : (value code : ℕ) → Seen → Looking
+  look value code s =
+      choose (eqb (span structs value code) 0) (λ _. on s) λ _.
+      choose (eqb (covered cells value (span structs value code - 1)) (entries cells)) (λ _. off (s .marks) (s .queue)) λ _.
+      choose (agrees code (covered cells value (span structs value code - 1)) (span structs value code) 0)
+      (λ _. on (markedAll (span structs value code) (covered cells value (span structs value code - 1)) s))
+      (λ _. off (s .marks) (s .queue))
+
+  -- the entries in the queue from `head` on are looked at, one after another, with those that join it; at most `deep` of them
+  unfoldable pub drain : (deep head : ℕ) → Seen → Looking
+  drain zero head s = on s
+  drain (suc deep) head s =
+      choose (ltb head (s .tail))
+      (λ _. thenLook (look (entryAt cells (getD (s .queue) head 0) 1) (entryAt cells (getD (s .queue) head 0) 2) s) (drain deep (head + 1)))
+      (λ _. on s)
+
+  -- a literal and all that is reached from it
+  unfoldable pub literal : (value code : ℕ) → Seen → Looking
+  literal value code s = thenLook (look value code s) (drain (length (s .queue)) (s .tail))
+
+  module _ (nodes : List ℕ) where
+    -- node i, if it is a literal
+    unfoldable pub nodeLook : ℕ → Seen → Looking
+    nodeLook i s = choose (eqb (rowAt nodes i 0) 0) (λ _. literal (rowAt nodes i 1) (rowAt nodes i 2) s) (λ _. on s)
+
+    -- `left` nodes from i on
+    unfoldable pub pass : (left i : ℕ) → Seen → Found
+    pass zero i s = found i (s .marks) (s .queue)
+    pass (suc left) i s = thenNext i (nodeLook i s) (pass left (i + 1))
+
+    -- the first literal that is off, or the count of nodes
+    abbrev pub firstBad : List ℕ → List ℕ → Found
+    firstBad marks queue = pass (length nodes / 4) 0 (seen (replicate (length marks) 0) queue 0)

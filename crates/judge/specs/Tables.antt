@@ -1,0 +1,34 @@
+-- Numbers of the lent tables by their place, 0 where there is none, and the size of a target by its pointer's code.
+use Prim.Native.Nat.{ℕ, _+_, _*_, _/_, _%_}
+use mathlib.Core.List.{List}
+use lib.Dec.{eqb}
+use lib.ListN.{getD}
+use Rattle.choice.specs.Choice.{choose}
+use Rattle.cells.specs.Code.{numberIn, countIn}
+
+-- number k of node i's row: code, argument, packed kind or target, number of the second part
+abbrev pub rowAt : List ℕ → ℕ → ℕ → ℕ
+rowAt nodes i k = getD nodes (4 * i + k) 0
+
+-- number k of entry j of the cell table: address, value, code of the kind
+abbrev pub entryAt : List ℕ → ℕ → ℕ → ℕ
+entryAt cells j k = getD cells (3 * j + k) 0
+
+-- the word type number of field i of struct s
+abbrev pub fieldAt : List ℕ → ℕ → ℕ → ℕ
+fieldAt structs s i = getD structs (17 * s + 1 + i) 0
+
+-- the code of a word type; an unknown one is int
+abbrev pub codeOf : List ℕ → ℕ → ℕ
+codeOf types n = getD types n 1
+
+-- which pointer a code is of: 1 to a word, 2 to a struct, 3 to an array; 0 is no pointer
+abbrev pub tagIn : ℕ → ℕ
+tagIn code = code % 8 / 2
+
+-- how many words the target of a pointer with this code covers
+unfoldable pub sizeOf : List ℕ → ℕ → ℕ
+sizeOf structs code =
+    choose (eqb (tagIn code) 1) (λ _. 1) λ _.
+    choose (eqb (tagIn code) 2) (λ _. getD structs (17 * numberIn code) 0) λ _.
+    choose (eqb (tagIn code) 3) (λ _. countIn code) (λ _. 0)

@@ -1,0 +1,196 @@
+// The literal check: one pass over the literals in node order. What a literal covers is marked and queued, and what was queued is
+// looked at in turn. Marks stay from literal to literal: what was found good stays good.
+ghost use Prim.Native.Nat.{_+_, _<_, _≤_, _^_};
+ghost use mathlib.Core.Path.{_≡_};
+ghost use lib.ListN.{length};
+ghost use Rattle.judge.specs.Marks.{seen};
+ghost use Rattle.judge.specs.Literals.{span, claim, agrees, look, drain, literal, nodeLook, firstBad, looking, found};
+use crate::Looked;
+use crate::find::covered;
+use crate::marks::mark_all;
+use crate::marks::wipe;
+use crate::tables::entry;
+use crate::tables::field_at;
+use crate::tables::index;
+use crate::tables::row;
+use crate::tables::size_of;
+use crate::tables::type_code;
+use cells::word;
+
+// How many words a literal needs: those that its target covers, if it is a checked pointer other than 0.
+fn span(structs: &[u64], value: u64, code: u64) -> usize
+    ensures { λ r. ⌜ r ≡ span (now (structs .entry)) value code ⌝ }
+{
+    if value == 0 {
+        return 0;
+    }
+    if code % 2 == 0 {
+        size_of(structs, code)
+    } else {
+        0
+    }
+}
+
+// The code that a pointer's i-th word has to have.
+fn claim(structs: &[u64], types: &[u64], code: u64, i: usize) -> u64
+    ensures { λ r. ⌜ r ≡ claim (now (structs .entry)) (now (types .entry)) code i ⌝ }
+{
+    let of = index(code / 8 % 256);
+    if code % 8 / 2 == 2 {
+        return type_code(types, index(field_at(structs, of, i)));
+    }
+    type_code(types, of)
+}
+
+// Whether `count` entries from `first` on have the codes that a pointer claims.
+fn agrees(
+    structs: &[u64],
+    types: &[u64],
+    cells: &[u64],
+    code: u64,
+    first: usize,
+    count: usize,
+) -> bool
+    requires { ⌜ first + count < 2 ^ 64 ⌝ }
+    ensures { λ r. ⌜ r ≡ agrees (now (structs .entry)) (now (types .entry)) (now (cells .entry)) code first count 0 ⌝ }
+{
+    let mut i = 0;
+    while i < count {
+        if entry(cells, first + i, 2) == claim(structs, types, code, i) {
+            i += 1;
+        } else {
+            return false;
+        }
+    }
+    true
+}
+
+// The words that a literal needs are there and have the codes claimed: then they are marked.
+fn look(
+    marks: &mut [u64],
+    queue: &mut [u64],
+    structs: &[u64],
+    types: &[u64],
+    cells: &[u64],
+    tail: usize,
+    value: u64,
+    code: u64,
+) -> Looked
+    ensures { λ r. ⌜ looking r (now (marks .exit)) (now (queue .exit))
+        ≡ look (now (structs .entry)) (now (types .entry)) (now (cells .entry)) value code (seen (now (marks .entry)) (now (queue .entry)) tail) ⌝ }
+{
+    let needed = span(structs, value, code);
+    if needed == 0 {
+        return Looked::On(tail);
+    }
+    let first = covered(cells, value, needed - 1);
+    if first == cells.len() / 3 {
+        return Looked::Off;
+    }
+    if agrees(structs, types, cells, code, first, needed) {
+        return Looked::On(mark_all(marks, queue, tail, first, needed));
+    }
+    Looked::Off
+}
+
+// The entries in the queue from `first` on are looked at, one after another, with those that join it.
+fn drain(
+    marks: &mut [u64],
+    queue: &mut [u64],
+    structs: &[u64],
+    types: &[u64],
+    cells: &[u64],
+    first: usize,
+    last: usize,
+) -> Looked
+    requires { do ⌜ last ≤ (← ⟦queue.len()⟧) ⌝ }
+    ensures { λ r. ⌜ looking r (now (marks .exit)) (now (queue .exit))
+        ≡ drain (now (structs .entry)) (now (types .entry)) (now (cells .entry)) (length (now (queue .entry))) first
+        (seen (now (marks .entry)) (now (queue .entry)) last) ⌝ }
+{
+    let mut head = first;
+    let mut tail = last;
+    while head < tail {
+        let j = index(word(queue, head));
+        let value = entry(cells, j, 1);
+        let code = entry(cells, j, 2);
+        let Looked::On(next) = look(marks, queue, structs, types, cells, tail, value, code) else {
+            return Looked::Off;
+        };
+        tail = next;
+        head += 1;
+    }
+    Looked::On(tail)
+}
+
+// A literal and all that is reached from it.
+fn literal(
+    marks: &mut [u64],
+    queue: &mut [u64],
+    structs: &[u64],
+    types: &[u64],
+    cells: &[u64],
+    tail: usize,
+    value: u64,
+    code: u64,
+) -> Looked
+    requires { do ⌜ tail ≤ (← ⟦queue.len()⟧) ⌝ }
+    ensures { λ r. ⌜ looking r (now (marks .exit)) (now (queue .exit))
+        ≡ literal (now (structs .entry)) (now (types .entry)) (now (cells .entry)) value code (seen (now (marks .entry)) (now (queue .entry)) tail) ⌝ }
+{
+    let Looked::On(next) = look(marks, queue, structs, types, cells, tail, value, code) else {
+        return Looked::Off;
+    };
+    drain(marks, queue, structs, types, cells, tail, next)
+}
+
+// Node i, if it is a literal.
+fn node_look(
+    marks: &mut [u64],
+    queue: &mut [u64],
+    structs: &[u64],
+    types: &[u64],
+    cells: &[u64],
+    nodes: &[u64],
+    tail: usize,
+    i: usize,
+) -> Looked
+    requires { do ⌜ tail ≤ (← ⟦queue.len()⟧) ⌝ }
+    ensures { λ r. ⌜ looking r (now (marks .exit)) (now (queue .exit))
+        ≡ nodeLook (now (structs .entry)) (now (types .entry)) (now (cells .entry)) (now (nodes .entry)) i
+        (seen (now (marks .entry)) (now (queue .entry)) tail) ⌝ }
+{
+    if row(nodes, i, 0) == 0 {
+        let value = row(nodes, i, 1);
+        let code = row(nodes, i, 2);
+        return literal(marks, queue, structs, types, cells, tail, value, code);
+    }
+    Looked::On(tail)
+}
+
+// The number of the first literal that isn't well typed over the cells; the count of nodes if there is none.
+pub fn first_bad(
+    marks: &mut [u64],
+    queue: &mut [u64],
+    structs: &[u64],
+    types: &[u64],
+    cells: &[u64],
+    nodes: &[u64],
+) -> usize
+    ensures { λ r. ⌜ found r (now (marks .exit)) (now (queue .exit))
+        ≡ firstBad (now (structs .entry)) (now (types .entry)) (now (cells .entry)) (now (nodes .entry))
+        (now (marks .entry)) (now (queue .entry)) ⌝ }
+{
+    wipe(marks);
+    let count = nodes.len() / 4;
+    let mut tail = 0;
+    let mut i = 0;
+    while i < count {
+        let Looked::On(next) = node_look(marks, queue, structs, types, cells, nodes, tail, i) else {
+            return i;
+        };
+        tail = next;
+        i += 1;
+    }
+    count
+}

@@ -1,0 +1,8 @@
+-- What the machine's functions do, as functions over lists; and when its memory holds a script, so that it runs as the definition says.
+pub mod Tables
+pub mod Rules
+pub mod Room
+pub mod Look
+pub mod Drive
+pub mod Ready
+pub mod Entry
