@@ -7,7 +7,7 @@ use lib.ListN.{length, take}
 use Rattle.cells.specs.Lent.{lent, heapWords, cleared}
 use Rattle.cells.specs.declared.Kind.{Kind}
 use Rattle.calculus.specs.Expr.{nodes}
-use Rattle.calculus.specs.Judge.{Verdict, good, bad}
+use Rattle.calculus.specs.Judge.{Verdict, good, bad, judged}
 use Rattle.calculus.specs.Run.{Result, run}
 use Rattle.calculus.specs.declared.Refusal.{Refusal}
 use Rattle.calculus.specs.declared.Outcome.{Outcome}
@@ -26,7 +26,7 @@ use Rattle.judge.specs.Script.{Answers, asVerdict}
 use Rattle.judge.specs.declared.Judged.{Judged}
 use Rattle.judge.specs.declared.Judged.the-variants as verdict
 use Rattle.machine.specs.Entry.{Stepped}
-use Rattle.codlinbell.specs.Answered.{Answered, answering, answered, refusal, ran, judgedThen, readThen, contentVerdict, contentRun}
+use Rattle.codlinbell.specs.Answered.{Answered, answering, answered, refusal, ran, judgedThen, readThen, contentVerdict, contentRun, announced, announcedOf}
 use Rattle.codlinbell.specs.Placing.{cellsStored}
 use Rattle.codlinbell.specs.Prepared.{Room, Prepared}
 use Rattle.codlinbell.specs.declared.Answer.{Answer}
@@ -146,6 +146,23 @@ module _ {words : ℕ} {image structs types cells table marks queue bound frames
           counted-as q (cc) (rw e at l) s t k m
       go (refused f i) q = let same : loading.Loaded n ≡ loading.Refused _ = result (refused f i) q in differ cc
 
+  -- An answer that is `Refused` is the image's verdict.
+  pub unread-verdict : {r : Loading} {q : Refusal} (n : ℕ) → words ≡ n → loaded.lent r structs′ types′ cells′ table′ ≡ loaded.loadInto words image structs types cells table
+      → r ≡ loading.Refused q → bad (q .fault) (q .place) ≡ announced n image
+  unfolding announced
+  unread-verdict {r} {q} n w l e = rw (← w) (go (readImage words image) refl)
+    where
+      result : (d : Reading Content) → readImage words image ≡ d → loading.Refused q ≡ loaded.loading d
+      result d h =
+          sym e ∙ ap (λ (F : loaded.Lent). F .result) l ∙ load-result words image structs types cells table (room .types-room) ∙ ap loaded.loading h
+
+      go : (d : Reading Content) → readImage words image ≡ d → bad (q .fault) (q .place) ≡ announcedOf words (readImage words image)
+      go (got c next) h = let same : loading.Refused q ≡ loading.Loaded _ = result (got c next) h in differ cc
+      go (refused f i) h =
+          let same : loading.Refused q ≡ loading.Refused (record { fault = f; place = i }) = result (refused f i) h in
+          let p : q ≡ record { fault = f; place = i } = cc in
+          rw (h, p)
+
   -- An answer that is `Refused` is the image's answer.
   pub unread-told : {r : Loading} {q : Refusal} (ws : List ℕ) (limit : ℕ) → words ≡ heapWords ws
       → loaded.lent r structs′ types′ cells′ table′ ≡ loaded.loadInto words image structs types cells table → r ≡ loading.Refused q
@@ -163,6 +180,24 @@ module _ {words : ℕ} {image structs types cells table marks queue bound frames
           let same : loading.Refused q ≡ loading.Refused (record { fault = f; place = i }) = result (refused f i) h in
           let p : q ≡ record { fault = f; place = i } = cc in
           rw (h, p)
+
+-- An image that reads without fault has the verdict of its content, another that of its reading.
+pub verdict-read : (words : ℕ) (image : List ℕ) {c : Content} {next : ℕ} {v : Verdict} → readImage words image ≡ got c next
+    → v ≡ judged (settingOf words (c .tables)) (heapOf words (c .cells)) (c .expr) → v ≡ announced words image
+unfolding announced
+verdict-read words image e q = q ∙ sym (ap (announcedOf words) e)
+
+-- So the judge's answer over the tables that loading left is the image's verdict.
+pub judged-read : {words : ℕ} {image : List ℕ} {n : Counts} {structs types cells table marks queue bound marks′ queue′ bound′ : List ℕ} {j : Judged}
+    (l : LoadedAs words image n structs types cells table) → min (length image) 4096 ≤ length marks → min (length image) 4096 ≤ length queue
+    → 64 ≤ length bound
+    → Answers (take (17 * n .structs) structs) (take (n .types) types) (take (3 * n .cells) cells) (take (4 * n .nodes) table) marks queue bound j marks′ queue′ bound′
+    → asVerdict j ≡ announced words image
+judged-read {words} {image} {marks = marks} {queue = queue} {bound = bound} l m q b a =
+    let few = l .few-cells in
+    verdict-read words image (l .reads)
+    (a .definition words (l .content) (l .held)
+    (readied (given-by (content-gives words image) (l .reads)) marks queue bound (omega arith) (omega arith) b))
 
 -- An image that reads without fault is answered by the verdict on its content, and by its run.
 pub read-told : (image ws : List ℕ) (words limit : ℕ) {c : Content} {next : ℕ} {a : Answered} → words ≡ heapWords ws

@@ -61,6 +61,14 @@ module _ (ws : List ℕ) where
 unfoldable pub answered : (image ws : List ℕ) (limit : ℕ) → Answered
 answered image ws limit = readThen ws limit (readImage (heapWords ws) image)
 
+-- the verdict on an image over a heap of so many words: its reading fault, or that of its content
+abbrev pub announcedOf : (words : ℕ) → reading.Reading Content → Verdict
+announcedOf words (reading.got c next) = judged (settingOf words (c .tables)) (heapOf words (c .cells)) (c .expr)
+announcedOf words (reading.refused f p) = bad f p
+
+unfoldable pub announced : (words : ℕ) (image : List ℕ) → Verdict
+announced words image = announcedOf words (readImage words image)
+
 -- "a Value gives its number as the reading. Every other end gives none."
 abbrev pub endReading : End → Reading
 endReading (Value c) = Number (c .value)

@@ -14,6 +14,7 @@ pub enum Reading {
     Nothing,
 }
 
+mod announce;
 mod ask;
 mod cases;
 mod host;
@@ -23,6 +24,7 @@ mod place;
 mod readings;
 mod widths;
 
+pub use announce::judge_image;
 pub use ask::DEFAULT_LIMIT;
 pub use ask::answer_to;
 pub use ask::answer_within;
