@@ -3,5 +3,6 @@ pub mod Heaps
 pub mod Prepared
 pub mod Composed
 pub mod Promises
+pub mod Determined
 pub mod Worked
 pub mod Writing
