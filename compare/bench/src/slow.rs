@@ -1,233 +1,242 @@
-//! A small search for the slowest image.
-//!
-//! One builder with knobs makes all candidates: what the cells hold, how far
-//! apart they are, what the script does and how many nodes it has. The search
-//! starts from every pair of a heap and a script at full size, keeps the
-//! slowest, and then turns the knobs at random, keeping what is slower, until
-//! its time is over. An image that is too long is cut down first, so that every
-//! candidate is one that is really read.
+//! The search for the slowest image.
 
-use crate::workloads::{sums, Workload};
-use generate::model::short::{array, cast, cell, int, literal, malloc, read, structure};
-use generate::model::short::{unchecked, word};
-use generate::model::{Cell, Checked, Model, Node, Target};
-use generate::{bytes, Dice};
+use crate::knobs::{Ground, Join, Knobs, Script, GROUNDS, SCRIPTS};
+use crate::workloads::Workload;
+use generate::Dice;
 use std::time::{Duration, Instant};
 
-const MOST_BYTES: usize = 16_384;
+/// How it is searched, to be printed with what was found.
+pub const HOW: &str = "\
+One builder with knobs makes all candidates: what the cells hold (ints, structs,
+arrays, both), how many there are, how far apart, how many of them are pointers,
+how much these cover and where; how many type entries there are; what the
+script's parts do (literals, pointer literals, reads, mallocs, blocks, deep
+nests), two kinds mixed, joined by sums or lets, how many there are, and how much
+a malloc takes. On each of the four kinds of heap every kind of script is tried
+at full size. From the slowest of these, one to three knobs at a time are turned
+at random, keeping what is slower: an eighth of the time on each kind of heap,
+and the other half from the slowest of all. What is too long is cut to fit. Two
+candidates are measured by turns, so that both meet the same machine.";
 
-/// What the cells hold.
-#[derive(Clone, Copy, Debug, PartialEq, Eq)]
-enum Ground {
-    Ints,
-    /// Each cell points to a struct of `width` such cells; they overlap.
-    Structs,
-    /// Each cell of the first half points to an array of `width` ints in the
-    /// second.
-    Arrays,
-    /// Each cell of the first half points to an array of `width` cells in the
-    /// second, and each of those to a struct of cells in the first.
-    Both,
+/// How many turns candidates get at most, and how many the slowest of each kind
+/// of heap get.
+const TURNS: usize = 4;
+const LAST_TURNS: usize = 12;
+
+/// How much slower the other one has to be; less may be chance, and would lead
+/// anywhere.
+const CLEARLY: f64 = 1.01;
+
+pub struct Found {
+    pub workload: Workload,
+    pub knobs: Knobs,
+    /// The time of the slowest on each kind of heap, as a part of the longest.
+    pub by_ground: Vec<(Ground, f64)>,
+    pub tried: u64,
 }
 
-/// What the script does in each of its parts.
-#[derive(Clone, Copy, Debug, PartialEq, Eq)]
-enum Script {
-    Literals,
-    /// Literals that have to be looked at over the heap.
-    Pointers,
-    Reads,
-    Mallocs,
-    Blocks,
+#[derive(Clone)]
+struct Candidate {
+    knobs: Knobs,
+    workload: Workload,
 }
 
-#[derive(Clone, Copy, Debug)]
-pub struct Knobs {
-    ground: Ground,
-    script: Script,
-    cells: u64,
-    gap: u64,
-    width: u64,
-    parts: u64,
-    size: u64,
-}
-
-const GROUNDS: [Ground; 4] = [Ground::Ints, Ground::Structs, Ground::Arrays, Ground::Both];
-
-const SCRIPTS: [Script; 5] = [
-    Script::Literals,
-    Script::Pointers,
-    Script::Reads,
-    Script::Mallocs,
-    Script::Blocks,
-];
-
-/// The word types of every candidate: a plain pointer to int, what cells hold,
-/// and an array of those.
-const TO_INT: u64 = 1;
-const HELD: u64 = 2;
-const ARRAY: u64 = 3;
-
-impl Knobs {
-    fn model(&self) -> Model {
-        let of_struct = match self.ground {
-            Ground::Both => ARRAY,
-            _ => HELD,
-        };
-        let held = match self.ground {
-            Ground::Arrays => array(Checked, self.width, 0),
-            _ => structure(Checked, 0),
-        };
-        Model {
-            structs: vec![vec![of_struct; self.width.min(16) as usize]],
-            types: vec![word(Checked, 0), held, array(Checked, self.width, HELD)],
-            cells: (0..self.cells).map(|place| self.cell(place)).collect(),
-            root: self.root(),
+impl Candidate {
+    fn new(knobs: &Knobs) -> Candidate {
+        let knobs = knobs.fitted();
+        Candidate {
+            knobs,
+            workload: knobs.workload(),
         }
-    }
-
-    fn cell(&self, place: u64) -> Cell {
-        let gap = if place == 0 { 1 } else { self.gap };
-        let half = self.cells / 2;
-        // Some place from which on `width` cells of so many lie.
-        let start = |of: u64| place * 7 % (of + 1 - self.width.min(of)) + 1;
-        match self.ground {
-            Ground::Ints => cell(gap, place % 100, 0),
-            Ground::Structs => cell(gap, start(self.cells), HELD),
-            Ground::Arrays if place < half => cell(gap, half + start(half), HELD),
-            Ground::Arrays => cell(gap, place % 100, 0),
-            Ground::Both if place < half => cell(gap, half + start(half), ARRAY),
-            Ground::Both => cell(gap, start(half), HELD),
-        }
-    }
-
-    fn root(&self) -> Node {
-        let mut place = 0;
-        let mut part = || {
-            place += 1;
-            let spot = place * 2_654_435_761;
-            let address = spot % self.cells * self.gap + 1;
-            match self.script {
-                Script::Literals => int(place),
-                Script::Pointers => cast(0, self.pointer(spot)),
-                Script::Reads => unchecked(read(cast(TO_INT, int(address)))),
-                Script::Mallocs => cast(
-                    0,
-                    malloc(Target::Array {
-                        count: self.size,
-                        of: 0,
-                    }),
-                ),
-                Script::Blocks => unchecked(cast(0, int(place))),
-            }
-        };
-        sums(self.parts, &mut part)
-    }
-
-    /// A literal that fits the ground.
-    fn pointer(&self, spot: u64) -> Node {
-        let half = self.cells / 2;
-        let start = |of: u64| spot % (of + 1 - self.width.min(of)) + 1;
-        match self.ground {
-            Ground::Ints => literal(spot % self.cells * self.gap + 1, TO_INT),
-            Ground::Structs => literal(start(self.cells), HELD),
-            Ground::Arrays => literal(half + start(half), HELD),
-            Ground::Both => literal(half + start(half), ARRAY),
-        }
-    }
-
-    /// Inside the limits: fewer parts or cells until the image is short enough.
-    fn fitted(&self) -> Knobs {
-        let mut knobs = *self;
-        let part_nodes = match knobs.script {
-            Script::Literals => 2,
-            Script::Pointers | Script::Mallocs => 3,
-            Script::Reads => 5,
-            Script::Blocks => 4,
-        };
-        // Only ints need not lie side by side.
-        knobs.gap = match knobs.ground {
-            Ground::Ints => knobs.gap.clamp(1, 4),
-            _ => 1,
-        };
-        knobs.cells = knobs.cells.clamp(64, 4_095 / knobs.gap + 1);
-        knobs.parts = knobs.parts.clamp(1, 2_047 / part_nodes);
-        knobs.size = knobs.size.clamp(1, 64);
-        loop {
-            knobs.width = match knobs.ground {
-                Ground::Structs | Ground::Both => knobs.width.clamp(1, 16),
-                _ => knobs.width.clamp(1, knobs.cells / 2),
-            };
-            if bytes(&knobs.model()).len() <= MOST_BYTES {
-                return knobs;
-            }
-            if knobs.cells > knobs.parts.max(64) {
-                knobs.cells = (knobs.cells * 15 / 16).max(64);
-            } else {
-                knobs.parts = (knobs.parts * 15 / 16).max(1);
-            }
-        }
-    }
-
-    fn turned(&self, dice: &mut Dice) -> Knobs {
-        let mut knobs = *self;
-        let factor = |dice: &mut Dice, value: u64| value * dice.range(8, 32) / 16 + dice.below(3);
-        match dice.below(7) {
-            0 => knobs.cells = factor(dice, knobs.cells),
-            1 => knobs.width = factor(dice, knobs.width),
-            2 => knobs.parts = factor(dice, knobs.parts),
-            3 => knobs.size = factor(dice, knobs.size),
-            4 => knobs.gap = dice.range(1, 3),
-            5 => knobs.ground = GROUNDS[dice.index(GROUNDS.len())],
-            _ => knobs.script = SCRIPTS[dice.index(SCRIPTS.len())],
-        }
-        knobs.fitted()
-    }
-
-    fn workload(&self) -> Workload {
-        let name = format!(
-            "slowest ({:?}, {:?}, {} cells, gap {}, width {}, {} parts of {})",
-            self.ground, self.script, self.cells, self.gap, self.width, self.parts, self.size
-        );
-        Workload::new(&name, &self.model(), 4_096)
     }
 }
 
-/// The slowest image found within the time; `cost` measures one.
-pub fn slowest(time: Duration, seed: u64, mut cost: impl FnMut(&Workload) -> f64) -> Workload {
-    let start = Instant::now();
-    let mut dice = Dice::new(seed);
-    let mut best = (0.0, full(Ground::Ints, Script::Literals, 1));
-    for ground in GROUNDS {
-        for script in SCRIPTS {
-            for gap in [1, 2] {
-                keep_slower(&mut best, full(ground, script, gap), &mut cost);
-            }
-        }
-    }
-    while start.elapsed() < time {
-        let next = best.1.turned(&mut dice);
-        keep_slower(&mut best, next, &mut cost);
-    }
-    best.1.workload()
+/// `time` measures one call.
+struct Search<Time> {
+    time: Time,
+    dice: Dice,
+    tried: u64,
 }
 
-fn full(ground: Ground, script: Script, gap: u64) -> Knobs {
-    let knobs = Knobs {
-        ground,
-        script,
-        cells: 4_096,
-        gap,
-        width: 16,
-        parts: 2_048,
-        size: 2,
+/// The slowest image found; `long` is how long knobs are turned.
+pub fn slowest(long: Duration, seed: u64, time: impl FnMut(&Workload) -> f64) -> Found {
+    let mut search = Search {
+        time,
+        dice: Dice::new(seed),
+        tried: 0,
     };
-    knobs.fitted()
+    let climbed = GROUNDS.map(|ground| {
+        let start = search.best_start(ground);
+        search.climbed(start, long / 8)
+    });
+    let times = search.by_turns(&climbed, LAST_TURNS);
+    let best = place_of_slowest(&times);
+    let parts = times.iter().map(|time| time / times[best]);
+    let named = climbed.iter().map(|one| one.knobs.ground);
+    let by_ground = named.zip(parts).collect();
+    let Candidate { knobs, workload } = search.climbed(climbed[best].clone(), long / 2);
+    Found {
+        workload,
+        knobs,
+        by_ground,
+        tried: search.tried,
+    }
 }
 
-fn keep_slower(best: &mut (f64, Knobs), knobs: Knobs, cost: &mut impl FnMut(&Workload) -> f64) {
-    let price = cost(&knobs.workload());
-    if price > best.0 {
-        *best = (price, knobs);
+fn place_of_slowest(times: &[f64]) -> usize {
+    let slower = |a: &usize, b: &usize| times[*a].total_cmp(&times[*b]);
+    (0..times.len()).max_by(slower).unwrap_or(0)
+}
+
+impl<Time: FnMut(&Workload) -> f64> Search<Time> {
+    fn best_start(&mut self, ground: Ground) -> Candidate {
+        let starts: Vec<Candidate> = starts(ground).iter().map(Candidate::new).collect();
+        self.tried += starts.len() as u64;
+        let times = self.by_turns(&starts, TURNS);
+        starts[place_of_slowest(&times)].clone()
+    }
+
+    fn climbed(&mut self, from: Candidate, long: Duration) -> Candidate {
+        let mut best = from;
+        let begun = Instant::now();
+        while begun.elapsed() < long {
+            let mut knobs = best.knobs;
+            for _ in 0..self.dice.range(1, 3) {
+                turn(&mut knobs, &mut self.dice);
+            }
+            let other = Candidate::new(&knobs);
+            self.tried += 1;
+            if self.is_slower(&other, &best) {
+                best = other;
+            }
+        }
+        best
+    }
+
+    /// Most candidates are far from the best, and one turn tells.
+    fn is_slower(&mut self, other: &Candidate, best: &Candidate) -> bool {
+        let (mut least, mut bar) = (f64::MAX, f64::MAX);
+        for _ in 0..TURNS {
+            bar = bar.min((self.time)(&best.workload));
+            least = least.min((self.time)(&other.workload));
+            if least < 0.9 * bar {
+                return false;
+            }
+        }
+        least > CLEARLY * bar
+    }
+
+    /// The least time of each.
+    fn by_turns(&mut self, list: &[Candidate], turns: usize) -> Vec<f64> {
+        let mut least = vec![f64::MAX; list.len()];
+        for _ in 0..turns {
+            for (one, least) in list.iter().zip(&mut least) {
+                *least = least.min((self.time)(&one.workload));
+            }
+        }
+        least
+    }
+}
+
+/// Every script by itself and mixed with mallocs, joined both ways, everything
+/// as large as it fits.
+fn starts(ground: Ground) -> Vec<Knobs> {
+    let mut list = Vec::new();
+    for script in SCRIPTS {
+        for join in [Join::Sums, Join::Lets] {
+            for share in [0, 8] {
+                let scripts = [script, Script::Mallocs];
+                let near = full(ground, scripts, share, join);
+                let far = Knobs { gap: 2, ..near };
+                list.push(near);
+                if ground == Ground::Ints {
+                    list.push(far);
+                }
+            }
+        }
+    }
+    list
+}
+
+fn full(ground: Ground, scripts: [Script; 2], share: u64, join: Join) -> Knobs {
+    Knobs {
+        ground,
+        cells: 4_096,
+        gap: 1,
+        pointers: 32,
+        width: 4_096,
+        stride: 1,
+        entries: 0,
+        parts: 2_048,
+        scripts,
+        share,
+        join,
+        size: 2,
+    }
+}
+
+/// Turns one knob.
+fn turn(knobs: &mut Knobs, dice: &mut Dice) {
+    match dice.below(12) {
+        0 => knobs.cells = scaled(dice, knobs.cells),
+        1 => knobs.gap = dice.range(1, 4),
+        2 => knobs.pointers = scaled(dice, knobs.pointers),
+        3 => knobs.width = scaled(dice, knobs.width),
+        4 => knobs.stride = dice.below(9),
+        5 => knobs.entries = dice.below(4) * 84,
+        6 => knobs.parts = scaled(dice, knobs.parts),
+        7 => knobs.scripts[0] = SCRIPTS[dice.index(SCRIPTS.len())],
+        8 => knobs.scripts[1] = SCRIPTS[dice.index(SCRIPTS.len())],
+        9 => knobs.share = dice.below(17),
+        10 => knobs.join = [Join::Sums, Join::Lets][dice.index(2)],
+        _ => knobs.size = scaled(dice, knobs.size),
+    }
+}
+
+/// Half to twice as much, or nearly as much.
+fn scaled(dice: &mut Dice, value: u64) -> u64 {
+    let wide = dice.once_in(2);
+    let of_sixteen = if wide {
+        dice.range(8, 32)
+    } else {
+        dice.range(15, 17)
+    };
+    value * of_sixteen / 16 + dice.below(3)
+}
+
+#[cfg(test)]
+mod tests {
+    use super::*;
+    use compare::check::DEFAULT_LIMIT;
+    use compare::implementation::{Implementation, Tuned};
+
+    /// One that is refused, or ends early, would only seem to be searched.
+    fn assert_runs_to_its_end(knobs: &Knobs) {
+        let workload = knobs.fitted().workload();
+        let mut heap = vec![0; 2 * workload.words];
+        let mut out = [0; 6];
+        Tuned::new().answer(&workload.image, &mut heap, DEFAULT_LIMIT, &mut out);
+        assert_eq!(out[..2], [1, 0], "{:?}", knobs.fitted());
+    }
+
+    #[test]
+    fn every_start_runs_to_its_end() {
+        for ground in GROUNDS {
+            starts(ground).iter().for_each(assert_runs_to_its_end);
+        }
+    }
+
+    #[test]
+    fn whatever_is_turned_runs_to_its_end() {
+        let mut dice = Dice::new(1);
+        for ground in GROUNDS {
+            for mut knobs in starts(ground) {
+                for _ in 0..8 {
+                    turn(&mut knobs, &mut dice);
+                    assert_runs_to_its_end(&knobs);
+                    knobs = knobs.fitted();
+                }
+            }
+        }
     }
 }

@@ -6,6 +6,7 @@ use generate::model::short::{structure, sum, variable, word};
 use generate::model::{Checked, Kind, Model, Node, Target, Unchecked};
 use generate::parts::{list_cells, tree};
 
+#[derive(Clone)]
 pub struct Workload {
     pub name: String,
     pub image: Vec<u8>,
@@ -21,17 +22,33 @@ impl Workload {
             words,
         }
     }
+
+    /// An image from a file, over the largest heap.
+    pub fn from_file(file: &str) -> Option<Workload> {
+        Some(Workload {
+            name: file.to_string(),
+            image: std::fs::read(file).ok()?,
+            words: 4_096,
+        })
+    }
 }
+
+/// How many samples are summed where that is measured.
+pub const SAMPLES: u64 = 256;
 
 pub fn all() -> Vec<Workload> {
     vec![
         Workload::new("P2", &p2(), 16),
-        Workload::new("sum of 256 samples", &samples(256), 1_024),
+        sum_of_samples(),
         Workload::new("largest script", &largest_script(2_047), 16),
         Workload::new("fullest heap", &fullest_heap(), 4_096),
         Workload::new("reverse list", &reverse_list(2_048), 4_096),
         Workload::new("255 type entries", &type_entries(255), 16),
     ]
+}
+
+pub fn sum_of_samples() -> Workload {
+    Workload::new("sum of 256 samples", &samples(SAMPLES), 1_024)
 }
 
 /// The third word of a fresh array of three.
@@ -42,30 +59,32 @@ fn p2() -> Model {
 }
 
 /// The sum over an array that the image sets, each sample read by its index.
-pub fn samples(count: u64) -> Model {
+fn samples(count: u64) -> Model {
     let mut index = 0;
-    let mut sample = || {
+    let mut read_next = || {
         index += 1;
         read(sum(variable(0), int(index - 1)))
     };
-    let total = sums(count, &mut sample);
+    let total = joined(count, &mut read_next, sum);
     Model {
         structs: vec![],
         types: vec![array(Checked, count, 0)],
-        cells: (0..count)
-            .map(|place| cell(1, place * 37 % 1_000, 0))
-            .collect(),
+        cells: (0..count).map(|place| cell(1, sample(place), 0)).collect(),
         root: let_in(literal(1, 1), total),
     }
 }
 
-/// A tree of sums over so many parts, left to right.
-pub fn sums(count: u64, part: &mut impl FnMut() -> Node) -> Node {
+pub fn sample(place: u64) -> u64 {
+    place * 37 % 1_000
+}
+
+/// A balanced tree over so many parts, left to right.
+pub fn joined(count: u64, part: &mut impl FnMut() -> Node, join: fn(Node, Node) -> Node) -> Node {
     if count <= 1 {
         return part();
     }
-    let left = sums(count / 2, part);
-    sum(left, sums(count - count / 2, part))
+    let left = joined(count / 2, part, join);
+    join(left, joined(count - count / 2, part, join))
 }
 
 /// A full tree of sums of literals.
@@ -104,7 +123,7 @@ pub fn reverse_list(nodes: u64) -> Model {
 }
 
 /// Entries of every shape, no two equal.
-pub fn type_entries(count: u64) -> Model {
+fn type_entries(count: u64) -> Model {
     let types: Vec<Kind> = (0..count).map(entry).collect();
     Model {
         structs: vec![vec![0, 0]],
