@@ -88,7 +88,8 @@ pub record LoadedAs (words : ℕ) (image : List ℕ) (n : Counts) (structs types
   pub content : Content
   pub next : ℕ
   pub reads : readImage words image ≡ got content next
-  pub few-cells : length (content .cells) ≤ min (length image) 4096
+  pub cells-count : n .cells ≡ length (content .cells)
+  pub few-cells : n .cells ≤ min (length image / 3) 4096
   pub structs-few : n .structs ≤ 32
   pub cells-few : n .cells ≤ 4096
   pub nodes-few : n .nodes ≤ 2048
@@ -116,6 +117,7 @@ module _ {words : ℕ} {image structs types cells table marks queue bound frames
         content = c;
         next = next;
         reads = e;
+        cells-count = refl;
         few-cells = omega (arith, r .bytes, r .few-cells);
         structs-few = few;
         cells-few = r .few-cells;
@@ -189,12 +191,12 @@ verdict-read words image e q = q ∙ sym (ap (announcedOf words) e)
 
 -- So the judge's answer over the tables that loading left is the image's verdict.
 pub judged-read : {words : ℕ} {image : List ℕ} {n : Counts} {structs types cells table marks queue bound marks′ queue′ bound′ : List ℕ} {j : Judged}
-    (l : LoadedAs words image n structs types cells table) → min (length image) 4096 ≤ length marks → min (length image) 4096 ≤ length queue
+    (l : LoadedAs words image n structs types cells table) → min (length image / 3) 4096 ≤ length marks → min (length image / 3) 4096 ≤ length queue
     → 64 ≤ length bound
     → Answers (take (17 * n .structs) structs) (take (n .types) types) (take (3 * n .cells) cells) (take (4 * n .nodes) table) marks queue bound j marks′ queue′ bound′
     → asVerdict j ≡ announced words image
 judged-read {words} {image} {marks = marks} {queue = queue} {bound = bound} l m q b a =
-    let few = l .few-cells in
+    let few : length (l .content .cells) ≤ min (length image / 3) 4096 = rw (← l .cells-count) (l .few-cells) in
     verdict-read words image (l .reads)
     (a .definition words (l .content) (l .held)
     (readied (given-by (content-gives words image) (l .reads)) marks queue bound (omega arith) (omega arith) b))

@@ -1,5 +1,5 @@
 -- When the lent tables hold the content of an image, with room beside them to judge and run it.
-use Prim.Native.Nat.{ℕ, _*_, _≤_, min}
+use Prim.Native.Nat.{ℕ, _*_, _/_, _≤_, min}
 use mathlib.Core.Path.{_≡_}
 use mathlib.Core.List.{List}
 use lib.ListN.{length}
@@ -15,8 +15,8 @@ pub record Room (image structs types cells nodes marks queue bound frames : List
   pub types-room : 256 ≤ length types
   pub cells-room : min (length image) 12288 ≤ length cells
   pub nodes-room : 4 * min (length image) 2048 ≤ length nodes
-  pub marks-room : min (length image) 4096 ≤ length marks
-  pub queue-room : min (length image) 4096 ≤ length queue
+  pub marks-room : min (length image / 3) 4096 ≤ length marks
+  pub queue-room : min (length image / 3) 4096 ≤ length queue
   pub bound-room : 128 ≤ length bound
   pub frames-room : 256 ≤ length frames
 

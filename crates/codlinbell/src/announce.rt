@@ -14,48 +14,6 @@ use judge::judge_script;
 pub fn judge_image(image: &[u8], words: usize) -> Judged
     ensures { λ r. ⌜ asVerdict r ≡ announced (min words 4096) (now (image .entry)) ⌝ }
 {
-    let used = most_words(words);
-    if image.len() <= 256 {
-        judge_short(image, used)
-    } else {
-        judge_long(image, used)
-    }
-}
-
-fn most_words(words: usize) -> usize
-    ensures { λ r. ⌜ r ≡ min words 4096 ⌝ }
-{
-    if words < 4096 { words } else { 4096 }
-}
-
-// As for an answer, a short image needs short tables only.
-fn judge_short(image: &[u8], words: usize) -> Judged
-    requires { ⌜ length (now image) ≤ 256 ⌝ }
-    ensures { λ r. ⌜ asVerdict r ≡ announced words (now (image .entry)) ⌝ }
-{
-    let mut structs = [0u64; 544];
-    let mut types = [0u64; 256];
-    let mut cells = [0u64; 256];
-    let mut nodes = [0u64; 1024];
-    let mut marks = [0u64; 256];
-    let mut queue = [0u64; 256];
-    let mut bound = [0u64; 256];
-    judge_in(
-        &mut structs,
-        &mut types,
-        &mut cells,
-        &mut nodes,
-        &mut marks,
-        &mut queue,
-        &mut bound,
-        image,
-        words,
-    )
-}
-
-fn judge_long(image: &[u8], words: usize) -> Judged
-    ensures { λ r. ⌜ asVerdict r ≡ announced words (now (image .entry)) ⌝ }
-{
     let mut structs = [0u64; 544];
     let mut types = [0u64; 256];
     let mut cells = [0u64; 12288];
@@ -72,8 +30,14 @@ fn judge_long(image: &[u8], words: usize) -> Judged
         &mut queue,
         &mut bound,
         image,
-        words,
+        most_words(words),
     )
+}
+
+fn most_words(words: usize) -> usize
+    ensures { λ r. ⌜ r ≡ min words 4096 ⌝ }
+{
+    if words < 4096 { words } else { 4096 }
 }
 
 // The verdict, with tables that are long enough for any content of the image. Frames are not needed: `bound` stands for them in `Room`.

@@ -28,28 +28,35 @@ pub fn answer_to(image: &[u8], heap: &mut [u64]) -> Answer
     answer_within(image, heap, DEFAULT_LIMIT)
 }
 
-// The answer to the image over the lent heap, with at most `limit` steps.
+// The answer to the image over the lent heap, with at most `limit` steps. Tables are made as long as an image of about this length can
+// need: clearing them is most of what a small script costs.
 pub fn answer_within(image: &[u8], heap: &mut [u64], limit: u64) -> Answer
     ensures { λ r. ⌜ answering r (now (heap .exit)) ≡ answered (now (image .entry)) (now (heap .entry)) limit ⌝ }
 {
-    if image.len() <= 256 {
-        answer_short(heap, image, limit)
-    } else {
-        answer_long(heap, image, limit)
+    let length = image.len();
+    if length <= 64 {
+        return answer_tiny(heap, image, limit);
     }
+    if length <= 512 {
+        return answer_short(heap, image, limit);
+    }
+    if length <= 2048 {
+        return answer_middling(heap, image, limit);
+    }
+    answer_long(heap, image, limit)
 }
 
-// A short image needs short tables only: clearing them is most of what a small script costs.
-fn answer_short(heap: &mut [u64], image: &[u8], limit: u64) -> Answer
-    requires { ⌜ length (now image) ≤ 256 ⌝ }
+// Tables for an image of at most 64 bytes: 12 KiB.
+fn answer_tiny(heap: &mut [u64], image: &[u8], limit: u64) -> Answer
+    requires { ⌜ length (now image) ≤ 64 ⌝ }
     ensures { λ r. ⌜ answering r (now (heap .exit)) ≡ answered (now (image .entry)) (now (heap .entry)) limit ⌝ }
 {
     let mut structs = [0u64; 544];
     let mut types = [0u64; 256];
-    let mut cells = [0u64; 256];
-    let mut nodes = [0u64; 1024];
-    let mut marks = [0u64; 256];
-    let mut queue = [0u64; 256];
+    let mut cells = [0u64; 64];
+    let mut nodes = [0u64; 256];
+    let mut marks = [0u64; 21];
+    let mut queue = [0u64; 21];
     let mut bound = [0u64; 128];
     let mut frames = [0u64; 256];
     answer_in(
@@ -67,7 +74,63 @@ fn answer_short(heap: &mut [u64], image: &[u8], limit: u64) -> Answer
     )
 }
 
-// Tables for any image: 234 KiB.
+// For one of at most 512 bytes: 32 KiB.
+fn answer_short(heap: &mut [u64], image: &[u8], limit: u64) -> Answer
+    requires { ⌜ length (now image) ≤ 512 ⌝ }
+    ensures { λ r. ⌜ answering r (now (heap .exit)) ≡ answered (now (image .entry)) (now (heap .entry)) limit ⌝ }
+{
+    let mut structs = [0u64; 544];
+    let mut types = [0u64; 256];
+    let mut cells = [0u64; 512];
+    let mut nodes = [0u64; 2048];
+    let mut marks = [0u64; 170];
+    let mut queue = [0u64; 170];
+    let mut bound = [0u64; 128];
+    let mut frames = [0u64; 256];
+    answer_in(
+        heap,
+        &mut structs,
+        &mut types,
+        &mut cells,
+        &mut nodes,
+        &mut marks,
+        &mut queue,
+        &mut bound,
+        &mut frames,
+        image,
+        limit,
+    )
+}
+
+// For one of at most 2,048 bytes: 100 KiB.
+fn answer_middling(heap: &mut [u64], image: &[u8], limit: u64) -> Answer
+    requires { ⌜ length (now image) ≤ 2048 ⌝ }
+    ensures { λ r. ⌜ answering r (now (heap .exit)) ≡ answered (now (image .entry)) (now (heap .entry)) limit ⌝ }
+{
+    let mut structs = [0u64; 544];
+    let mut types = [0u64; 256];
+    let mut cells = [0u64; 2048];
+    let mut nodes = [0u64; 8192];
+    let mut marks = [0u64; 682];
+    let mut queue = [0u64; 682];
+    let mut bound = [0u64; 128];
+    let mut frames = [0u64; 256];
+    answer_in(
+        heap,
+        &mut structs,
+        &mut types,
+        &mut cells,
+        &mut nodes,
+        &mut marks,
+        &mut queue,
+        &mut bound,
+        &mut frames,
+        image,
+        limit,
+    )
+}
+
+// For any image: 234 KiB.
 fn answer_long(heap: &mut [u64], image: &[u8], limit: u64) -> Answer
     ensures { λ r. ⌜ answering r (now (heap .exit)) ≡ answered (now (image .entry)) (now (heap .entry)) limit ⌝ }
 {
@@ -118,9 +181,10 @@ fn answer_in(
             let t = counts.types;
             let c = 3 * counts.cells;
             let n = 4 * counts.nodes;
+            let marked = counts.cells;
             judge_and_run(
                 heap,
-                marks,
+                &mut marks[..marked],
                 queue,
                 bound,
                 frames,

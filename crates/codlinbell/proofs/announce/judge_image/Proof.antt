@@ -3,22 +3,47 @@ use borrow.Author.Needs.{needs}
 use Rattle.codlinbell.proofs.announce.judge_image.Statement.{statement}
 use Rattle.codlinbell.proofs.announce.judge_image.Tie as tie
 
+slice-aggregate-judge-in : tie.Need-slice-aggregate-judge-in
+slice-aggregate-judge-in c = search needs
+
+slice-aggregate-judge-in-2 : tie.Need-slice-aggregate-judge-in-2
+slice-aggregate-judge-in-2 c = search needs
+
+slice-aggregate-judge-in-3 : tie.Need-slice-aggregate-judge-in-3
+slice-aggregate-judge-in-3 c = search needs
+
+slice-aggregate-judge-in-4 : tie.Need-slice-aggregate-judge-in-4
+slice-aggregate-judge-in-4 c = search needs
+
+slice-aggregate-judge-in-5 : tie.Need-slice-aggregate-judge-in-5
+slice-aggregate-judge-in-5 c = search needs
+
+slice-aggregate-judge-in-6 : tie.Need-slice-aggregate-judge-in-6
+slice-aggregate-judge-in-6 c = search needs
+
+slice-aggregate-judge-in-7 : tie.Need-slice-aggregate-judge-in-7
+slice-aggregate-judge-in-7 c = search needs
+
 most-words-requires : tie.Need-most-words-requires
 most-words-requires c κs = search needs
 
-judge-short-requires : tie.Need-judge-short-requires
-judge-short-requires c κs = search needs
-
-judge-long-requires : tie.Need-judge-long-requires
-judge-long-requires c κs = search needs
+judge-in-requires : tie.Need-judge-in-requires
+judge-in-requires c κs = search needs
 
 returns : tie.Need-returns
-returns c = rw (← c .before .before .most-words .ensures) (c .judge-short .ensures)
-
-returns-2 : tie.Need-returns-2
-returns-2 c = rw (← c .before .before .most-words .ensures) (c .judge-long .ensures)
+returns c = rw (← c .before .before .before .before .before .before .before .before .most-words .ensures) (c .before .before .before .before .before .before .before .judge-in .ensures)
 
 pub judge-image-spec : {M : Type 1} → statement M
 judge-image-spec =
     tie.close
-    (tie.spec most-words-requires judge-short-requires judge-long-requires returns returns-2)
+    (tie.spec
+    slice-aggregate-judge-in
+    slice-aggregate-judge-in-2
+    slice-aggregate-judge-in-3
+    slice-aggregate-judge-in-4
+    slice-aggregate-judge-in-5
+    slice-aggregate-judge-in-6
+    slice-aggregate-judge-in-7
+    most-words-requires
+    judge-in-requires
+    returns)

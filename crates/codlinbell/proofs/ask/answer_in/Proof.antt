@@ -1,6 +1,6 @@
 -- `codlinbell::ask::answer_in` answers as the definition does: a refusal of loading is the image's, and a content that was loaded stands in the
 -- fronts of the tables, which are judged and run.
-use mathlib.Core.Path.{sym}
+use mathlib.Core.Path.{sym, _∙_}
 use native.Mathlib.Omega.{arith}
 use lib.Seq.{length-take-le}
 use Rattle.codlinbell.proofs.Composed.{LoadedAs, loaded-told, unread-told, read-told}
@@ -34,29 +34,35 @@ mul-c c = omega (arith, told (c .before) .cells-few)
 mul-n : tie.Need-mul-n
 mul-n c = omega (arith, told (c .before .before) .nodes-few)
 
+slice-relend-prefix-judge-and-run : tie.Need-slice-relend-prefix-judge-and-run
+slice-relend-prefix-judge-and-run c = omega (arith, told (c .before .before .before) .few-cells, c .before .before .before .before .before .before .before .before .before .before .before .before .before .before .before .before .before .before .before .before .before .before .before .before .before .before .before .before .before .before .before .before .pre .marks-room)
+
+slice-aggregate-judge-and-run : tie.Need-slice-aggregate-judge-and-run
+slice-aggregate-judge-and-run c = sym (length-take-le _ _ (omega (arith, told (c .before .before .before .before) .few-cells, c .before .before .before .before .before .before .before .before .before .before .before .before .before .before .before .before .before .before .before .before .before .before .before .before .before .before .before .before .before .before .before .before .before .pre .marks-room)))
+
 slice-reshare-prefix-judge-and-run : tie.Need-slice-reshare-prefix-judge-and-run
 slice-reshare-prefix-judge-and-run c = told (c .before .before .before .before .before .before .before) .structs-room
 
-slice-aggregate-judge-and-run : tie.Need-slice-aggregate-judge-and-run
-slice-aggregate-judge-and-run c = sym (length-take-le _ _ (told (c .before .before .before .before .before .before .before .before) .structs-room))
+slice-aggregate-judge-and-run-2 : tie.Need-slice-aggregate-judge-and-run-2
+slice-aggregate-judge-and-run-2 c = sym (length-take-le _ _ (told (c .before .before .before .before .before .before .before .before) .structs-room))
 
 slice-reshare-prefix-judge-and-run-2 : tie.Need-slice-reshare-prefix-judge-and-run-2
 slice-reshare-prefix-judge-and-run-2 c = told (c .before .before .before .before .before .before .before .before) .types-room
 
-slice-aggregate-judge-and-run-2 : tie.Need-slice-aggregate-judge-and-run-2
-slice-aggregate-judge-and-run-2 c = sym (length-take-le _ _ (told (c .before .before .before .before .before .before .before .before .before) .types-room))
+slice-aggregate-judge-and-run-3 : tie.Need-slice-aggregate-judge-and-run-3
+slice-aggregate-judge-and-run-3 c = sym (length-take-le _ _ (told (c .before .before .before .before .before .before .before .before .before) .types-room))
 
 slice-reshare-prefix-judge-and-run-3 : tie.Need-slice-reshare-prefix-judge-and-run-3
 slice-reshare-prefix-judge-and-run-3 c = told (c .before .before .before .before .before .before .before .before .before) .cells-room
 
-slice-aggregate-judge-and-run-3 : tie.Need-slice-aggregate-judge-and-run-3
-slice-aggregate-judge-and-run-3 c = sym (length-take-le _ _ (told (c .before .before .before .before .before .before .before .before .before .before) .cells-room))
+slice-aggregate-judge-and-run-4 : tie.Need-slice-aggregate-judge-and-run-4
+slice-aggregate-judge-and-run-4 c = sym (length-take-le _ _ (told (c .before .before .before .before .before .before .before .before .before .before) .cells-room))
 
 slice-reshare-prefix-judge-and-run-4 : tie.Need-slice-reshare-prefix-judge-and-run-4
 slice-reshare-prefix-judge-and-run-4 c = told (c .before .before .before .before .before .before .before .before .before .before) .nodes-room
 
-slice-aggregate-judge-and-run-4 : tie.Need-slice-aggregate-judge-and-run-4
-slice-aggregate-judge-and-run-4 c = sym (length-take-le _ _ (told (c .before .before .before .before .before .before .before .before .before .before .before) .nodes-room))
+slice-aggregate-judge-and-run-5 : tie.Need-slice-aggregate-judge-and-run-5
+slice-aggregate-judge-and-run-5 c = sym (length-take-le _ _ (told (c .before .before .before .before .before .before .before .before .before .before .before) .nodes-room))
 
 judge-and-run-requires : tie.Need-judge-and-run-requires
 judge-and-run-requires c κs = search needs
@@ -95,7 +101,6 @@ returns : tie.Need-returns
 returns c =
     let l = told (c .before .before .before .before .before .before .before .before .before .before .before .before .before .before .before .before .before .before .before .before .before .before) in
     let r = c .before .before .before .before .before .before .before .before .before .before .before .before .before .before .before .before .before .before .before .before .before .before .before .before .before .before .before .before .before .before .before .before .before .before .before .before .before .before .before .before .before .before .before .before .before .before .before .before .before .before .before .pre in
-    let few = l .few-cells in
     read-told _ _ _ _ (c .before .before .before .before .before .before .before .before .before .before .before .before .before .before .before .before .before .before .before .before .before .before .before .before .before .before .before .before .before .before .before .before .before .before .before .before .before .before .before .heap-words .ensures) (l .reads)
     (c .before .before .before .before .before .before .before .before .before .before .judge-and-run .ensures _ (l .content)
     (record {
@@ -103,8 +108,8 @@ returns c =
       words-are = c .before .before .before .before .before .before .before .before .before .before .before .before .before .before .before .before .before .before .before .before .before .before .before .before .before .before .before .before .before .before .before .before .before .before .before .before .before .before .before .heap-words .ensures;
       reads = l .reads;
       held = l .held;
-      marks-room = omega (arith, r .marks-room);
-      queue-room = omega (arith, r .queue-room);
+      marks-room = omega (arith, length-take-le (c .before .before .before .before .before .before .before .before .before .before .before .before .before .before .before .before .before .before .before .before .before .before .before .before .counts .given .0 .0 .cells) (c .before .before .before .before .before .before .before .before .before .before .before .before .before .before .before .before .before .before .before .before .before .before .before .before .before .before .before .before .before .before .before .before .before .before .before .before .before .before .before .before .before .before .before .before .before .before .before .before .before .before .before .args .marks .now) (omega (arith, l .few-cells, r .marks-room)), l .cells-count);
+      queue-room = omega (arith, r .queue-room, l .cells-count, l .few-cells);
       bound-room = r .bound-room;
       frames-room = r .frames-room;
     }))
@@ -137,14 +142,16 @@ answer-in-spec =
     mul-s
     mul-c
     mul-n
-    slice-reshare-prefix-judge-and-run
+    slice-relend-prefix-judge-and-run
     slice-aggregate-judge-and-run
-    slice-reshare-prefix-judge-and-run-2
+    slice-reshare-prefix-judge-and-run
     slice-aggregate-judge-and-run-2
-    slice-reshare-prefix-judge-and-run-3
+    slice-reshare-prefix-judge-and-run-2
     slice-aggregate-judge-and-run-3
-    slice-reshare-prefix-judge-and-run-4
+    slice-reshare-prefix-judge-and-run-3
     slice-aggregate-judge-and-run-4
+    slice-reshare-prefix-judge-and-run-4
+    slice-aggregate-judge-and-run-5
     judge-and-run-requires
     enum-known-refusal
     same-length
