@@ -2,7 +2,7 @@
 ghost use Prim.Native.Nat.{_*_, _<_, _≤_};
 ghost use mathlib.Core.Path.{_≡_};
 ghost use lib.ListN.{length};
-use codlinbell::Answer;
+use answers::Answer;
 use libc::STDIN_FILENO;
 use libc::STDOUT_FILENO;
 use std::num::wrapping_add_u64;
@@ -64,7 +64,7 @@ fn ask(image: &[u8], count: usize, heap: &mut [u64], words: usize, limit: u64) -
 // Writes the answer's line.
 fn tell(answer: Answer) {
     let mut line = [0u8; 128];
-    let length = codlinbell::write_line(&mut line, answer);
+    let length = answers::write_line(&mut line, answer);
     say(&line[..length]);
 }
 

@@ -29,8 +29,8 @@ use Rattle.machine.specs.Entry.{Stepped}
 use Rattle.codlinbell.specs.Answered.{Answered, answering, answered, refusal, ran, judgedThen, readThen, contentVerdict, contentRun, announced, announcedOf}
 use Rattle.codlinbell.specs.Placing.{cellsStored}
 use Rattle.codlinbell.specs.Prepared.{Room, Prepared}
-use Rattle.codlinbell.specs.declared.Answer.{Answer}
-use Rattle.codlinbell.specs.declared.Answer.the-variants.{Refused, Ran}
+use Rattle.answers.specs.declared.Answer.{Answer}
+use Rattle.answers.specs.declared.Answer.the-variants.{Refused, Ran}
 use Rattle.codlinbell.proofs.Heaps.{cells-made}
 use Rattle.codlinbell.proofs.Prepared.{rising, readied, ready}
 

@@ -11,9 +11,10 @@ use Rattle.judge.specs.Script.{asVerdict}
 use Rattle.judge.specs.declared.Judged.{Judged}
 use Rattle.judge.specs.declared.Judged.the-variants as judged
 use Rattle.codlinbell.specs.Answered.{Answered, answering, answered, announced}
-use Rattle.codlinbell.specs.Out.{Told, told, Hosted, hosted}
-use Rattle.codlinbell.specs.Line.{line}
-use Rattle.codlinbell.specs.declared.Answer.{Answer}
+use Rattle.answers.specs.Out.{Told, told}
+use Rattle.codlinbell.specs.Hosted.{Hosted, hosted}
+use Rattle.answers.specs.Line.{line}
+use Rattle.answers.specs.declared.Answer.{Answer}
 
 -- answer_within, and answer_to with the default limit
 pub answer-determined : (image ws : List ℕ) (limit : ℕ) (a b : Answer) (ws₁ ws₂ : List ℕ) → answering a ws₁ ≡ answered image ws limit

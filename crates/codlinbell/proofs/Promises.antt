@@ -29,10 +29,11 @@ use Rattle.image.specs.Content.{Content, settingOf, heapOf}
 use Rattle.image.specs.Reading as reading
 use Rattle.image.specs.Image.{readImage}
 use Rattle.codlinbell.proofs.Heaps.{heap-length}
-use Rattle.codlinbell.specs.Answered.{Answered, answered, refusal, ran, readThen, judgedThen, contentVerdict, contentRun, endReading, readingOf}
-use Rattle.codlinbell.specs.declared.Reading.the-variants.{Number}
-use Rattle.codlinbell.specs.declared.Answer.{Answer}
-use Rattle.codlinbell.specs.declared.Answer.the-variants.{Refused, Ran}
+use Rattle.codlinbell.specs.Answered.{Answered, answered, refusal, ran, readThen, judgedThen, contentVerdict, contentRun}
+use Rattle.answers.specs.Readings.{endReading, readingOf}
+use Rattle.answers.specs.declared.Reading.the-variants.{Number}
+use Rattle.answers.specs.declared.Answer.{Answer}
+use Rattle.answers.specs.declared.Answer.the-variants.{Refused, Ran}
 
 -- The setting and the heap of a content over a lent heap.
 abbrev pub settingIn : List ℕ → Content → Setting

@@ -31,9 +31,10 @@ use Rattle.image.specs.Cells.{readAddress, readCell, readCells}
 use Rattle.image.specs.Nodes.{headOf, readHead, readParts, readNode}
 use Rattle.image.specs.Image.{readImage, readFormat, readTables, readPlaced, readExpr}
 use Rattle.codlinbell.specs.Answered.{answered, defaultLimit}
-use Rattle.codlinbell.specs.Line.{line, printed, text, digits}
-use Rattle.codlinbell.specs.declared.Answer.{Answer}
-use Rattle.codlinbell.specs.declared.Answer.the-variants.{Refused, Ran}
+use Rattle.codlinbell.specs.Printed.{printed}
+use Rattle.answers.specs.Line.{line, text, digits}
+use Rattle.answers.specs.declared.Answer.{Answer}
+use Rattle.answers.specs.declared.Answer.the-variants.{Refused, Ran}
 
 -- a worked image: the heap's size in words, the limit, and the answer that document 01 states
 record Row : Type 0 where

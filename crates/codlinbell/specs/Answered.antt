@@ -9,15 +9,11 @@ use Rattle.calculus.specs.Setting.{Setting}
 use Rattle.calculus.specs.Judge.{Verdict, good, bad, judged}
 use Rattle.calculus.specs.Run.{Result, run}
 use Rattle.calculus.specs.declared.Fault.{Fault}
-use Rattle.calculus.specs.declared.End.{End}
-use Rattle.calculus.specs.declared.End.the-variants.{Value, Null, Bounds, Room, Stuck, More}
 use Rattle.image.specs.Content.{Content, settingOf, heapOf}
 use Rattle.image.specs.Reading as reading
 use Rattle.image.specs.Image.{readImage}
-use Rattle.codlinbell.specs.declared.Answer.{Answer}
-use Rattle.codlinbell.specs.declared.Answer.the-variants.{Refused, Ran}
-use Rattle.codlinbell.specs.declared.Reading.{Reading}
-use Rattle.codlinbell.specs.declared.Reading.the-variants.{Number, Nothing}
+use Rattle.answers.specs.declared.Answer.{Answer}
+use Rattle.answers.specs.declared.Answer.the-variants.{Refused, Ran}
 
 -- the answer, and the numbers of the lent heap
 pub record Answered : Type 0 where
@@ -68,16 +64,3 @@ announcedOf words (reading.refused f p) = bad f p
 
 unfoldable pub announced : (words : ℕ) (image : List ℕ) → Verdict
 announced words image = announcedOf words (readImage words image)
-
--- "a Value gives its number as the reading. Every other end gives none."
-abbrev pub endReading : End → Reading
-endReading (Value c) = Number (c .value)
-endReading Null = Nothing
-endReading Bounds = Nothing
-endReading Room = Nothing
-endReading Stuck = Nothing
-endReading More = Nothing
-
-abbrev pub readingOf : Answer → Reading
-readingOf (Refused r) = Nothing
-readingOf (Ran o) = endReading (o .end)

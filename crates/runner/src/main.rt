@@ -9,6 +9,6 @@ fn main() {
     let mut heap = [0u64; 2048];
     let answer = codlinbell::answer_to(&image[..read], &mut heap);
     let mut line = [0u8; 128];
-    let length = codlinbell::write_line(&mut line, answer);
+    let length = answers::write_line(&mut line, answer);
     io::write_all(STDOUT_FILENO, &line[..length]);
 }

@@ -6,8 +6,9 @@ use mathlib.Core.List.{List, _++_}
 use lib.ListN.{length, drop}
 use borrow.Author.Tests.{lt-ltb, le-ltb}
 use Rattle.codlinbell.specs.Answered.{Answered, answering, answered}
-use Rattle.codlinbell.specs.Out.{Told, told, outNumbers, Hosted, hosted}
-use Rattle.codlinbell.specs.declared.Answer.{Answer}
+use Rattle.answers.specs.Out.{Told, told, outNumbers}
+use Rattle.codlinbell.specs.Hosted.{Hosted, hosted}
+use Rattle.answers.specs.declared.Answer.{Answer}
 use borrow.Author.Needs.{needs}
 use Rattle.codlinbell.proofs.host.codlinbell_answer.Statement.{statement}
 use Rattle.codlinbell.proofs.host.codlinbell_answer.Tie as tie
