@@ -18,7 +18,7 @@ use Rattle.image.specs.Answers.{mapped}
 use Rattle.image.specs.Tabled.{cellRows}
 use Rattle.image.specs.Reading.{Reading, got, refused, thenRead, number, below}
 use Rattle.image.specs.Cells.{readAddress, readCell, readCells}
-use Rattle.image.specs.Tabling.{CellRow, cellRow, readRow, rowSet, cellsInto}
+use Rattle.image.specs.Tabling.{CellRow, readRow, rowSet, cellsInto}
 use Rattle.image.proofs.Gives.{Gives, gives, gives-none, gives-then, gives-test, gives-telling, given-by}
 use Rattle.image.proofs.Each.{Each, each-none, each-more}
 use Rattle.image.proofs.Fills.{Fills, fills, fills-telling, fills-as, fills-more}

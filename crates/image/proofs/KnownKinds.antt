@@ -1,9 +1,9 @@
 -- Of kinds whose numbers are known: their numbers fit the code, so that kinds are the same exactly if their codes are.
 -- Assumes nothing.
-use mathlib.Core.Path.{_≡_, refl, _∙_}
+use mathlib.Core.Path.{_≡_, refl}
 use mathlib.Core.Bool.{Bool, true, false}
 use mathlib.Core.List.{List, [], _∷_, map}
-use Prim.Native.Nat.{ℕ, zero, suc, _+_, _<_, _≤_}
+use Prim.Native.Nat.{ℕ, zero, suc, _<_, _≤_}
 use native.Mathlib.Omega.{arith}
 use lib.Dec.{eqb}
 use lib.ListN.{length, getD}
@@ -16,7 +16,7 @@ use Rattle.cells.specs.declared.Kind.the-variants.{Int, Word, Struct, Array}
 use Rattle.cells.proofs.Codes.{packed-injective}
 use Rattle.calculus.specs.Expr.{Target, toWord, toStruct, toArray, pointer}
 use Rattle.image.specs.Tables.{isAmong}
-use Rattle.image.specs.Tabling.{amongFrom}
+use Rattle.image.specs.Tabling.{among}
 use Rattle.image.proofs.Each.{Each, each-more}
 use Rattle.calculus.proofs.Same.{sameKind-true, sameKind-false, neither}
 
@@ -62,17 +62,10 @@ code-test {κ} {τ} s t = go (sameKind κ τ) refl
     go false e = ne-eqb (packed κ) (packed τ) (λ p. sameKind-false κ τ e (packed-injective s t p))
 
 -- looking for a code among codes is looking for its kind among the kinds
-pub among-kinds : (t : List ℕ) (κ : Kind) (τs : List Kind) (i : ℕ) → Small κ → Each Small τs
-    → ((j : ℕ) → j < length τs → getD t (i + j) 0 ≡ getD (map packed τs) j 0) → amongFrom t (packed κ) i (length τs) ≡ isAmong κ τs
-unfolding amongFrom isAmong
-among-kinds t κ [] i s e h = refl
-among-kinds t κ (τ ∷ τs) i s (each-more q e) h =
-    let z : i + 0 ≡ i = omega arith in
-    let here : getD t i 0 ≡ packed τ = rw z at (h 0 (omega arith)) in
-    rw (here, code-test s q, among-kinds t κ τs (i + 1) s e (λ j l. next j ∙ h (suc j) (omega arith)))
-  where
-    next : (j : ℕ) → getD t (i + 1 + j) 0 ≡ getD t (i + suc j) 0
-    next j = let z : i + 1 + j ≡ i + suc j = omega arith in rw z
+pub among-kinds : (κ : Kind) (τs : List Kind) → Small κ → Each Small τs → among (packed κ) (map packed τs) ≡ isAmong κ τs
+unfolding among isAmong
+among-kinds κ [] s e = refl
+among-kinds κ (τ ∷ τs) s (each-more q e) = rw (code-test s q, among-kinds κ τs s e)
 
 -- a kind that is not among others is none of them
 pub not-among : (κ : Kind) (τs : List Kind) → isAmong κ τs ≡ false → (i : ℕ) → i < length τs → κ ≡ getD τs i Int → ⊥

@@ -4,6 +4,7 @@ pub mod Gives
 pub mod Numbers
 pub mod Targets
 pub mod Turns
+pub mod Repeats
 pub mod CellLaws
 pub mod TableLaws
 pub mod Each

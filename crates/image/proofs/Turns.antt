@@ -5,15 +5,14 @@ use mathlib.Core.Bool.{true, false}
 use mathlib.Core.List.{List}
 use Prim.Native.Nat.{ℕ, suc, _+_, _-_, _<_, _≤_}
 use native.Mathlib.Omega.{arith}
-use lib.ListN.{length, getD, set}
-use borrow.Author.Tests.{eq-eqb, ne-eqb}
+use lib.ListN.{length, getD, set, take}
 use Rattle.cells.specs.Code.{packed}
 use Rattle.calculus.specs.declared.Fault.{Fault}
 use Rattle.calculus.specs.declared.Fault.the-variants as fault
 use Rattle.image.specs.Reading.{got, refused, below}
 use Rattle.image.specs.Tables.{readEntry}
 use Rattle.image.specs.Answers.{mapped}
-use Rattle.image.specs.Tabling.{Filled, filled, refusedAt, fieldsInto, structInto, structsInto, amongFrom, typesInto, cellRow, readRow, rowSet, cellsInto}
+use Rattle.image.specs.Tabling.{Filled, filled, refusedAt, fieldsInto, structInto, structsInto, among, typesInto, cellRow, readRow, rowSet, cellsInto}
 use Rattle.calculus.specs.declared.Refusal.{Refusal}
 use Rattle.image.specs.declared.Passed.{Passed}
 use Rattle.image.specs.declared.Passed.the-variants.{To, Refused}
@@ -54,20 +53,6 @@ module _ (image : List ℕ) (known left to at : ℕ) (t : List ℕ) where
     unfolding fieldsInto
     fields-refused e = rw (s, e)
 
-module _ (t : List ℕ) (code i left : ℕ) where
-  pub among-none : left ≡ 0 → amongFrom t code i left ≡ false
-  unfolding amongFrom
-  among-none z = rw z
-
-  module _ (l : ℕ) (s : left ≡ suc l) where
-    pub among-here : code ≡ getD t i 0 → amongFrom t code i left ≡ true
-    unfolding amongFrom
-    among-here e = rw (s, eq-eqb code (getD t i 0) e)
-
-    pub among-later : (code ≡ getD t i 0 → ⊥) → amongFrom t code i left ≡ amongFrom t code (i + 1) l
-    unfolding amongFrom
-    among-later n = rw (s, ne-eqb code (getD t i 0) n)
-
 module _ (image : List ℕ) (known left to at : ℕ) (t : List ℕ) where
   pub structs-done : left ≡ 0 → structsInto image known left to at t ≡ filled (To at) t
   unfolding structsInto
@@ -88,12 +73,12 @@ module _ (image : List ℕ) (S left own at : ℕ) (t : List ℕ) where
   types-done z = rw z
 
   module _ (l : ℕ) (s : left ≡ suc l) where
-    pub types-turn : {code next : ℕ} → mapped packed (readEntry image S own at) ≡ got code next → amongFrom t code 0 own ≡ false
+    pub types-turn : {code next : ℕ} → mapped packed (readEntry image S own at) ≡ got code next → among code (take own t) ≡ false
         → typesInto image S left own at t ≡ typesInto image S l (own + 1) next (set t own code)
     unfolding typesInto
     types-turn e n = rw (s, e, n)
 
-    pub types-repeat : {code next : ℕ} → mapped packed (readEntry image S own at) ≡ got code next → amongFrom t code 0 own ≡ true
+    pub types-repeat : {code next : ℕ} → mapped packed (readEntry image S own at) ≡ got code next → among code (take own t) ≡ true
         → typesInto image S left own at t ≡ filled (refusedAt fault.Repeat at) t
     unfolding typesInto
     types-repeat e n = rw (s, e, n)

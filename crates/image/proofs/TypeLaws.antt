@@ -129,10 +129,6 @@ map-snoc : (τs : List Kind) (κ : Kind) → map packed (τs ++ κ ∷ []) ≡ m
 map-snoc [] κ = refl
 map-snoc (τ ∷ τs) κ = ap (λ l. packed τ ∷ l) (map-snoc τs κ)
 
-codes-at : (t : List ℕ) (τs : List Kind) → take (length τs) t ≡ map packed τs → (j : ℕ) → j < length τs
-    → getD t (0 + j) 0 ≡ getD (map packed τs) j 0
-codes-at t τs e j h = let z : 0 + j ≡ j = omega arith in rw (z, ← e) (sym (getD-take (length τs) t j 0 h))
-
 -- The type table is filled as the definition reads: `typesInto` refuses where `readTypes` refuses, and leaves the codes of what it reads.
 pub types-fill : (image : List ℕ) (S left : ℕ) (τs : List Kind) (at : ℕ) (t : List ℕ) → S ≤ 256 → length τs + left ≤ 256
     → length τs + left ≤ length t → TypeList S τs → take (length τs) t ≡ map packed τs
@@ -142,7 +138,7 @@ types-fill image S zero τs at t s w room l e =
     let z : length τs + 0 ≡ length τs = omega arith in fills {a = τs} {next = at} {t = t} (record { codes = rw z e; rest = refl; long = refl })
 types-fill image S (suc left) τs at t s w room l e =
     fills-told packed (readEntry image S (length τs) at) t _ _ (entry-gives image S (length τs) at)
-    (λ κ next p. rw (among-kinds t κ τs 0 (small κ (p .has)) (each-of τs Int (λ i h. small _ (known-more (omega arith) (l .known i h)))) (codes-at t τs e))
+    (λ κ next p. rw (e, among-kinds κ τs (small κ (p .has)) (each-of τs Int (λ i h. small _ (known-more (omega arith) (l .known i h)))))
     (fills-test (isAmong κ τs) _ _ _ _ (λ _. fills-none)
     (λ n. rw (grown κ) at (fills-more
     (types-fill image S left (τs ++ κ ∷ []) next (set t (length τs) (packed κ)) s

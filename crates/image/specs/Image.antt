@@ -1,5 +1,5 @@
 -- The image, "in this order, all of it numbers": format, counts, structs, pointer types, cells, the expression; nothing after it.
-use Prim.Native.Nat.{ℕ, suc}
+use Prim.Native.Nat.{ℕ}
 use mathlib.Core.List.{List, [], _∷_}
 use lib.Dec.{eqb, ltb}
 use lib.ListN.{length, drop}

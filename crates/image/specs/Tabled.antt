@@ -1,7 +1,7 @@
 -- Content in lent tables of numbers, as the loader leaves it and as the judge and the machine take it: structs at a stride of 17 (field
 -- count, then the fields' word type numbers), types (packed codes), cells at a stride of 3 (address, value, packed code of the kind), nodes
 -- at a stride of 4 (code, argument, packed kind or target, number of the second part; the first part is the next node).
-use Prim.Native.Nat.{ℕ, zero, suc, _+_, _*_, _<_}
+use Prim.Native.Nat.{ℕ, suc, _+_, _*_, _<_}
 use mathlib.Core.Path.{_≡_}
 use mathlib.Core.List.{List, [], _∷_, map}
 use lib.ListN.{length, getD}
@@ -9,7 +9,7 @@ use Rattle.cells.specs.Code.{packed}
 use Rattle.cells.specs.declared.Mode.the-variants.{Checked}
 use Rattle.cells.specs.declared.Kind.{Kind}
 use Rattle.calculus.specs.Expr.{Expr, lit, var, malloc, bind, one, two, nodes, One, unchecked, cast, read, field, Two, assign, sum, Target, pointer}
-use Rattle.image.specs.Content.{Placed, Tables, Content}
+use Rattle.image.specs.Content.{Placed, Content}
 
 -- structs: no more numbers than the structs take
 pub record HeldStructs (t : List ℕ) (structs : List (List ℕ)) : Type 0 where

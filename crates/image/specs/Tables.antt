@@ -8,7 +8,6 @@ use Rattle.choice.specs.Choice.{choose, either}
 use Rattle.cells.specs.Code.{modeOf}
 use Rattle.cells.specs.Same.{sameKind}
 use Rattle.cells.specs.declared.Kind.{Kind}
-use Rattle.cells.specs.declared.Kind.the-variants.{Int}
 use Rattle.calculus.specs.Expr.{Target, toWord, toStruct, toArray, pointer}
 use Rattle.calculus.specs.declared.Fault.the-variants as fault
 use Rattle.image.specs.Reading.{Reading, got, refused, thenRead, below, several}

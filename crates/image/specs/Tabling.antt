@@ -2,9 +2,9 @@
 -- refused. Each has the shape of what it reads in Tables.antt and Cells.antt, with the parts told as numbers.
 use Prim.Native.Nat.{ℕ, zero, suc, _+_}
 use mathlib.Core.Bool.{Bool, false}
-use mathlib.Core.List.{List}
+use mathlib.Core.List.{List, [], _∷_}
 use lib.Dec.{eqb, ltb}
-use lib.ListN.{length, getD, set}
+use lib.ListN.{length, getD, set, take}
 use Rattle.choice.specs.Choice.{choose, either}
 use Rattle.cells.specs.Code.{packed}
 use Rattle.calculus.specs.declared.Fault.{Fault}
@@ -82,17 +82,17 @@ structsInto image known (suc left) to at t =
     onward (structInto image known to at t .result) (structInto image known to at t .table)
     (λ next t′. structsInto image known left (to + 17) next t′)
 
--- the code is among the `left` numbers from i on
-unfoldable pub amongFrom : List ℕ → (code i left : ℕ) → Bool
-amongFrom t code i zero = false
-amongFrom t code i (suc left) = either (eqb code (getD t i 0)) (amongFrom t code (i + 1) left)
+-- the code is among these
+unfoldable pub among : ℕ → List ℕ → Bool
+among code [] = false
+among code (c ∷ cs) = either (eqb code c) (among code cs)
 
 -- `left` pointer types, the first of them at its own number
 unfoldable pub typesInto : (image : List ℕ) (S left own at : ℕ) → List ℕ → Filled
 typesInto image S zero own at t = filled (To at) t
 typesInto image S (suc left) own at t =
     thenFill (mapped packed (readEntry image S own at)) t
-    (λ code next. choose (amongFrom t code 0 own)
+    (λ code next. choose (among code (take own t))
     (λ _. filled (refusedAt fault.Repeat at) t)
     (λ _. typesInto image S left (own + 1) next (set t own code)))
 

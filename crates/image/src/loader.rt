@@ -1,5 +1,5 @@
 // The whole image, into lent tables.
-ghost use Prim.Native.Nat.{_+_, min};
+ghost use Prim.Native.Nat.{_+_};
 ghost use mathlib.Core.Path.{_≡_};
 ghost use lib.ListN.{take};
 ghost use Rattle.image.specs.Filling.{reading, expressionInto};
@@ -10,6 +10,7 @@ use crate::Loading;
 use crate::Opening;
 use crate::front::read_front;
 use crate::nodes::read_expression;
+use crate::number::lesser;
 
 // The image over a heap of `words` words: the structs, the word types, the cells and the nodes that it holds, or its refusal.
 pub fn load(
@@ -57,10 +58,4 @@ fn read_tail(
 {
     let end = lesser(known, types.len());
     read_expression(nodes, image, &types[..end], structs, at)
-}
-
-fn lesser(a: usize, b: usize) -> usize
-    ensures { λ r. ⌜ r ≡ min a b ⌝ }
-{
-    if a < b { a } else { b }
 }

@@ -1,4 +1,6 @@
-// A number of the image, and a number below a limit: faults 1 and 2, and the fault that is named for a number too large.
+// A number of the image, and a number below a limit: faults 1 and 2, and the fault that is named for a number too large. And the lesser
+// of two numbers.
+ghost use Prim.Native.Nat.{min};
 ghost use mathlib.Core.Path.{_≡_};
 ghost use Rattle.image.specs.Reading.{number, below};
 ghost use Rattle.image.specs.Answers.{limited};
@@ -39,4 +41,10 @@ pub fn read_below(image: &[u8], at: usize, limit: u64, fault: Fault) -> Limited
         }
         Limited::Refused(refusal) => Limited::Refused(refusal),
     }
+}
+
+pub fn lesser(a: usize, b: usize) -> usize
+    ensures { λ r. ⌜ r ≡ min a b ⌝ }
+{
+    if a < b { a } else { b }
 }

@@ -1,18 +1,19 @@
 // The type table: the code of each word type, type 0 being int.
 ghost use Prim.Native.Nat.{_+_, _≤_};
 ghost use mathlib.Core.Path.{_≡_};
+ghost use lib.ListN.{take};
 ghost use Rattle.cells.specs.Code.{packed};
 ghost use Rattle.image.specs.Tables.{readEntry};
 ghost use Rattle.image.specs.Answers.{limited, mapped};
-ghost use Rattle.image.specs.Tabling.{filled, amongFrom, typesInto};
+ghost use Rattle.image.specs.Tabling.{filled, among, typesInto};
 use crate::Limited;
 use crate::Passed;
+use crate::number::lesser;
 use crate::number::read_below;
 use crate::target::read_target;
 use calculus::Fault;
 use calculus::Refusal;
 use cells::put;
-use cells::word;
 
 // `count` pointer types from `first` on, the structs being those below `structs`; the types before them stand in the table up to `known`.
 pub fn read_types(
@@ -59,18 +60,19 @@ fn read_entry(image: &[u8], at: usize, structs: u64, own: u64) -> Limited
     }
 }
 
-// Whether the code is among the first `count` of the table.
+// Whether the code is among the first `count` of the table. All of them are compared, without a way out, so that the compiler can compare
+// several at once.
 fn is_among(types: &[u64], count: usize, code: u64) -> bool
-    ensures { λ r. ⌜ r ≡ amongFrom (now (types .entry)) code 0 count ⌝ }
+    ensures { λ r. ⌜ r ≡ among code (take count (now (types .entry))) ⌝ }
 {
-    let mut left = count;
+    let end = lesser(count, types.len());
+    let mut found = false;
     let mut i: usize = 0;
-    while left > 0 {
-        if code == word(types, i) {
-            return true;
+    while i < end {
+        if types[i] == code {
+            found = true;
         }
-        left -= 1;
         i += 1;
     }
-    false
+    found
 }

@@ -1,31 +1,35 @@
--- `image::types::is_among` says whether the code is among the first numbers of the table. The loop's invariant: it is among them exactly
--- if it is among those that are left. The measure is how many are left. Assumes nothing.
-use mathlib.Core.Path.{_≡_, refl, sym, _∙_}
-use Prim.Native.Nat.{_+_}
-use Rattle.image.specs.Tabling.{amongFrom}
-use Rattle.image.proofs.Turns.{is-suc, is-zero, among-none, among-here, among-later}
+-- `image::types::is_among` says whether the code is among the first codes of the table. The loop's invariant: it was found exactly if it
+-- is among those that were passed. The measure is how many are left. Assumes nothing.
+use mathlib.Core.Path.{_≡_, refl, _∙_}
+use mathlib.Core.Logic.{⊎-elim}
+use Prim.Native.Nat.{_-_, _≤_}
+use native.Mathlib.Omega.{arith}
+use lib.ListN.{length, take}
+use Rattle.image.specs.Tabling.{among}
+use Rattle.image.proofs.Sets.{take-min}
+use Rattle.image.proofs.Repeats.{among-here, among-other}
 use borrow.Author.Needs.{needs}
 use Rattle.image.proofs.types.is_among.Statement.{statement}
 use Rattle.image.proofs.types.is_among.Tie as tie
 
 abbrev Inv-loop : tie.InvT-loop
-Inv-loop types count code left₀ i₀ left i = (amongFrom types code 0 count ≡ amongFrom types code i left) × (i + left ≡ count)
+Inv-loop types count code end found₀ i₀ found i = (found ≡ among code (take i types)) × (i ≤ end) × (end ≤ length types)
 
 abbrev μ-loop : tie.MeasureT-loop
-μ-loop types count code left₀ i₀ left i = left
+μ-loop types count code end found₀ i₀ found i = end - i
+
+lesser-requires : tie.Need-lesser-requires Inv-loop μ-loop
+lesser-requires c κs = search needs
 
 loop-holds : tie.Need-loop-holds Inv-loop μ-loop
-loop-holds c = (refl, search needs)
+unfolding among
+loop-holds c = (refl, omega arith, omega arith)
 
-word-requires : tie.Need-word-requires Inv-loop μ-loop
-word-requires c κs = search needs
+mul-if1 : tie.Need-mul-if1 Inv-loop μ-loop
+mul-if1 c = search needs
 
-returns : tie.Need-returns Inv-loop μ-loop
-returns c =
-    sym (c .before .before .before .loop .inv .0 ∙ among-here _ _ _ _ _ (is-suc _ (c .before .before .loop-test .taken)) (c .if1 .taken ∙ c .before .word .ensures))
-
-sub-left : tie.Need-sub-left Inv-loop μ-loop
-sub-left c = search needs
+shared-slice-read-if1 : tie.Need-shared-slice-read-if1 Inv-loop μ-loop
+shared-slice-read-if1 c = search needs
 
 add-i : tie.Need-add-i Inv-loop μ-loop
 add-i c = search needs
@@ -34,11 +38,19 @@ loop-less : tie.Need-loop-less Inv-loop μ-loop
 loop-less c = search needs
 
 loop-again : tie.Need-loop-again Inv-loop μ-loop
-loop-again c =
-    (c .before .before .before .loop .inv .0 ∙ among-later _ _ _ _ _ (is-suc _ (c .before .before .loop-test .taken)) (λ e. c .if1 .left (e ∙ sym (c .before .word .ensures))), search needs)
+loop-again c = (
+  ⊎-elim
+      (λ w. w .1 ∙ among-here (c .before .before .before .before .before .before .args .types .now) (c .before .before .before .before .before .before .args .code) (c .before .before .before .loop .i) (omega arith) (w .0 .taken))
+      (λ w. w .1 ∙ c .before .before .before .loop .inv .0 ∙ among-other (c .before .before .before .before .before .before .args .types .now) (c .before .before .before .before .before .before .args .code) (c .before .before .before .loop .i) (omega arith) (w .0 .left))
+      (c .if1 .came),
+  search needs,
+  search needs,
+)
 
-returns-2 : tie.Need-returns-2 Inv-loop μ-loop
-returns-2 c = sym (c .before .loop .inv .0 ∙ among-none _ _ _ _ (is-zero _ (c .loop-test .left)))
+returns : tie.Need-returns Inv-loop μ-loop
+returns c =
+    let all : c .before .loop .i ≡ c .before .before .lesser .result = omega arith in
+    c .before .loop .inv .0 ∙ rw (all, c .before .before .lesser .ensures, take-min)
 
 pub is-among-spec : {M : Type 1} → statement M
 is-among-spec =
@@ -46,11 +58,11 @@ is-among-spec =
     (tie.spec
     Inv-loop
     μ-loop
+    lesser-requires
     loop-holds
-    word-requires
-    returns
-    sub-left
+    mul-if1
+    shared-slice-read-if1
     add-i
     loop-less
     loop-again
-    returns-2)
+    returns)
