@@ -23,7 +23,7 @@ pub fn read_tables(structs: &mut [u64], types: &mut [u64], image: &[u8], at: usi
         } => match read_structs(structs, image, next, t + 1, s) {
             Passed::To(behind) => {
                 put(types, 0, 1);
-                match read_types(types, image, behind, s, 1, t) {
+                match read_types(types, image, behind, s, t) {
                     Passed::To(end) => Counted::Tables {
                         structs: s,
                         types: t,

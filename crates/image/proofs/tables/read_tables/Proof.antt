@@ -4,6 +4,7 @@ use native.Mathlib.Omega.{arith}
 use Rattle.image.specs.Tabling.{countsAt, tablesInto}
 use Rattle.image.proofs.Answered.{was-counted, was-uncounted}
 use Rattle.image.proofs.TableLaws.{counts-value}
+use Rattle.image.proofs.Repeats.{int-put}
 use borrow.Author.Needs.{needs}
 use Rattle.image.proofs.tables.read_tables.Statement.{statement}
 use Rattle.image.proofs.tables.read_tables.Tie as tie
@@ -29,8 +30,10 @@ put-requires : tie.Need-put-requires
 put-requires c κs = search needs
 
 read-types-requires : tie.Need-read-types-requires
-read-types-requires c κs =
-    omega (arith, counts-value _ _ (c .before .before .before .before .before .before .before .before .before .before .before .before .before .before .before .read-counts .ensures) (c .before .before .before .before .before .before .before .before .before .before .before .before .before .s .given .1))
+read-types-requires c κs = (
+  omega (arith, counts-value _ _ (c .before .before .before .before .before .before .before .before .before .before .before .before .before .before .before .read-counts .ensures) (c .before .before .before .before .before .before .before .before .before .before .before .before .before .s .given .1)),
+  rw (c .before .before .before .put .ensures) (int-put (c .before .before .before .before .before .before .before .before .before .before .before .before .before .before .before .before .before .before .before .args .types .now)),
+)
 
 enum-known-end : tie.Need-enum-known-end
 enum-known-end c = search needs
