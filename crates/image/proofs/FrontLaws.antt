@@ -19,8 +19,10 @@ use Rattle.image.specs.Tables.{readStruct, readTypes}
 use Rattle.image.specs.Cells.{readCells}
 use Rattle.image.specs.Image.{readTables, readPlaced}
 use Rattle.image.specs.Answers.{refusal}
-use Rattle.image.specs.Tabling.{TablesFilled, tabled, structsInto, typesInto, countsAt, tablesInto, Counting, counting, cellsInto, placedInto}
+use Rattle.image.specs.Filled.{Filled, filled}
+use Rattle.image.specs.Tabling.{TablesFilled, tabled, structsInto, typesInto, countsAt, tablesInto, cellsInto, placedInto}
 use Rattle.image.specs.declared.Counted.the-variants as both
+use Rattle.image.specs.declared.Limited.{Limited}
 use Rattle.image.specs.declared.Limited.the-variants as lim
 use Rattle.image.proofs.Gives.{Gives, gives, gives-then, gives-more, given-by}
 use Rattle.image.proofs.Numbers.{Below, below-gives}
@@ -205,21 +207,21 @@ pub tables-unopened : {ss ts : List ℕ} {f : Fault} {p : ℕ} {F : TablesFilled
 tables-unopened tables-refused = refl
 
 -- the cells as the code leaves them
-pub data PlacedAre (cs : List ℕ) : Reading (List Placed) → Counting → Type 0 where
+pub data PlacedAre (cs : List ℕ) : Reading (List Placed) → Filled Limited → Type 0 where
   placed-are : {ps : List Placed} {C next : ℕ} {cs′ : List ℕ} → C ≡ length ps → (3 * C ≤ length cs → CellTable C cs ps cs′)
-      → PlacedAre cs (got ps next) (counting (lim.Value C next) cs′)
-  placed-refused : {f : Fault} {p : ℕ} {cs′ : List ℕ} → PlacedAre cs (refused f p) (counting (lim.Refused (refusal f p)) cs′)
+      → PlacedAre cs (got ps next) (filled (lim.Value C next) cs′)
+  placed-refused : {f : Fault} {p : ℕ} {cs′ : List ℕ} → PlacedAre cs (refused f p) (filled (lim.Refused (refusal f p)) cs′)
 
-pub record PlacedOpened (cs : List ℕ) (ps : List Placed) (next : ℕ) (F : Counting) : Type 0 where
+pub record PlacedOpened (cs : List ℕ) (ps : List Placed) (next : ℕ) (F : Filled Limited) : Type 0 where
   pub C : ℕ
   pub answer : F .result ≡ lim.Value C next
   pub count : C ≡ length ps
   pub table-of : 3 * C ≤ length cs → CellTable C cs ps (F .table)
 
-pub placed-opened : {cs : List ℕ} {ps : List Placed} {next : ℕ} {F : Counting} → PlacedAre cs (got ps next) F → PlacedOpened cs ps next F
+pub placed-opened : {cs : List ℕ} {ps : List Placed} {next : ℕ} {F : Filled Limited} → PlacedAre cs (got ps next) F → PlacedOpened cs ps next F
 placed-opened (placed-are {C = C} c t) = record { C = C; answer = refl; count = c; table-of = t }
 
-pub placed-unopened : {cs : List ℕ} {f : Fault} {p : ℕ} {F : Counting} → PlacedAre cs (refused f p) F → F .result ≡ lim.Refused (refusal f p)
+pub placed-unopened : {cs : List ℕ} {f : Fault} {p : ℕ} {F : Filled Limited} → PlacedAre cs (refused f p) F → F .result ≡ lim.Refused (refusal f p)
 placed-unopened placed-refused = refl
 
 module _ (words : ℕ) (image : List ℕ) (t : Tables) (codes : List ℕ)

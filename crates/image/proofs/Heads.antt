@@ -14,7 +14,8 @@ use Rattle.calculus.specs.declared.Refusal.{Refusal}
 use Rattle.image.specs.Reading.{Reading, got, refused, thenRead, number, below}
 use Rattle.image.specs.Tables.{readTarget}
 use Rattle.image.specs.Answers.{mapped, pointerCode}
-use Rattle.image.specs.Filling.{Filled, reading, Line, kindCode, literal, lineOf, codeInto, lineInto, headInto}
+use Rattle.image.specs.Filled.{Filled, filled}
+use Rattle.image.specs.Filling.{Line, kindCode, literal, lineOf, codeInto, lineInto, headInto}
 use Rattle.image.specs.declared.Parts.{Parts}
 use Rattle.image.specs.declared.Parts.the-variants.{Leaf, One, Two}
 use Rattle.image.specs.declared.NodeHead.{NodeHead}
@@ -52,8 +53,8 @@ module _ (image types : List ℕ) (structs : ℕ) where
 
 -- a head that was read into row i, or a refusal
 data Told (i : ℕ) : Filled NodeHead → Type 0 where
-  told-read : {p : Parts} {next : ℕ} {t : List ℕ} → i < 2048 → Few p → Told i (reading (Read p next) t)
-  told-refused : {r : Refusal} {t : List ℕ} → Told i (reading (Refused r) t)
+  told-read : {p : Parts} {next : ℕ} {t : List ℕ} → i < 2048 → Few p → Told i (filled (Read p next) t)
+  told-refused : {r : Refusal} {t : List ℕ} → Told i (filled (Refused r) t)
 
 line-told : (t : List ℕ) (i code : ℕ) (r : Reading Line) → i < 2048 → Gives (λ l next. Few (l .parts)) r → Told i (lineInto t i code r)
 line-told t i code (got l next) h (gives f) = told-read h f
@@ -80,7 +81,7 @@ module _ (image types : List ℕ) (structs lets i at : ℕ) (t : List ℕ) where
       (λ _. told-refused)
       (λ l. line-told t i code (lineOf image types structs lets at code next) (leb-false 2048 i l) (line-few image types structs lets at code next)))
 
-  module _ {r : NodeHead} {t′ : List ℕ} {p : Parts} {next : ℕ} (e : reading r t′ ≡ headInto image types structs lets i at t) (q : r ≡ Read p next) where
+  module _ {r : NodeHead} {t′ : List ℕ} {p : Parts} {next : ℕ} (e : filled r t′ ≡ headInto image types structs lets i at t) (q : r ≡ Read p next) where
     told-result : headInto image types structs lets i at t .result ≡ Read p next
     told-result = sym (ap (λ (f : Filled NodeHead). f .result) e) ∙ q
 

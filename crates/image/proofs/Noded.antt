@@ -22,7 +22,8 @@ use Rattle.image.specs.Nodes.{Head, parts, readHead, readParts, readNode
 use Rattle.image.specs.Image.{readExpr}
 use Rattle.image.specs.Tabled.{oneCode, oneArgument, oneKind, twoCode, Row, Spans, s-lit, s-var, s-malloc, s-bind, s-one, s-two}
 use Rattle.image.specs.Answers.{refusal}
-use Rattle.image.specs.Filling.{Filled, reading, thenFill, Line, written, codeInto, lineInto, answered, cut, secondInto, partsInto, headInto, nodeInto, ended, expressionInto}
+use Rattle.image.specs.Filled.{Filled, filled, thenFill}
+use Rattle.image.specs.Filling.{Line, written, codeInto, lineInto, answered, cut, secondInto, partsInto, headInto, nodeInto, ended, expressionInto}
 use Rattle.image.specs.declared.NodeHead.{NodeHead}
 use Rattle.image.specs.declared.NodeHead.the-variants as head
 use Rattle.image.specs.declared.Expression.{Expression}
@@ -34,17 +35,17 @@ use Rattle.image.proofs.Alike.{Alike, alike, alike-refused, Tells, tell
 -- what went into the rows from i on is what was read
 pub data Into (t : List ℕ) (i : ℕ) : Filled Expression → Reading Expr → Type 0 where
   into : {e : Expr} {next count : ℕ} {t′ : List ℕ} → count ≡ i + nodes e → Kept t i count t′ → (4 * count ≤ length t → Spans t′ i e)
-      → Into t i (reading (Read next count) t′) (got e next)
-  stopped : {f : Fault} {p : ℕ} {t′ : List ℕ} → length t′ ≡ length t → Into t i (reading (Refused (refusal f p)) t′) (refused f p)
+      → Into t i (filled (Read next count) t′) (got e next)
+  stopped : {f : Fault} {p : ℕ} {t′ : List ℕ} → length t′ ≡ length t → Into t i (filled (Refused (refusal f p)) t′) (refused f p)
 
 -- the same of a head in row i
 data HeadInto (t : List ℕ) (i : ℕ) : Filled NodeHead → Reading Head → Type 0 where
-  head-into : {code next : ℕ} {l : Line} {h : Head} → Tells code l h → HeadInto t i (reading (head.Read (l .parts) next) (written t i code (l .argument) (l .kind))) (got h next)
-  head-stopped : {f : Fault} {p : ℕ} → HeadInto t i (reading (head.Refused (refusal f p)) t) (refused f p)
+  head-into : {code next : ℕ} {l : Line} {h : Head} → Tells code l h → HeadInto t i (filled (head.Read (l .parts) next) (written t i code (l .argument) (l .kind))) (got h next)
+  head-stopped : {f : Fault} {p : ℕ} → HeadInto t i (filled (head.Refused (refusal f p)) t) (refused f p)
 
 -- a node without parts
 leaf-into : {t t′ : List ℕ} {i code argument kind next : ℕ} {e : Expr} → nodes e ≡ 1 → Opened t i t′ code argument kind
-    → (Row t′ i code argument kind 0 → Spans t′ i e) → Into t i (reading (Read next (i + 1)) t′) (got e next)
+    → (Row t′ i code argument kind 0 → Spans t′ i e) → Into t i (filled (Read next (i + 1)) t′) (got e next)
 leaf-into {i = i} {e = e} n o span = into {e = e} {count = i + 1} (omega arith) (o .kept) (λ room. span (o .row (omega arith)))
 
 -- a node with one part, which went into the table behind it
@@ -161,7 +162,7 @@ test-into : (t : List ℕ) (i : ℕ) (b : Bool) (x y : Unit {0} → Filled NodeH
 test-into t i true x y x′ y′ p q = p
 test-into t i false x y x′ y′ p q = q
 
-cut-into : (t : List ℕ) (i at : ℕ) (r : Reading ℕ) → Into t i (reading (cut at r) t) (thenRead r (λ _ _. refused fault.Limit at))
+cut-into : (t : List ℕ) (i at : ℕ) (r : Reading ℕ) → Into t i (filled (cut at r) t) (thenRead r (λ _ _. refused fault.Limit at))
 cut-into t i at (got v next) = stopped refl
 cut-into t i at (refused f p) = stopped refl
 

@@ -10,7 +10,8 @@ use lib.ListN.{length, set}
 use Rattle.calculus.specs.declared.Refusal.{Refusal}
 use Rattle.calculus.specs.declared.Fault.the-variants as fault
 use Rattle.image.specs.Reading.{Reading, got, refused, below}
-use Rattle.image.specs.Tabling.{filled, TwoCounts, countsAt, counted, onCounted, tabled, typesAfter, structsAfter, structsInto, typesInto, tablesInto, counting, placedInto, onLimited, cellsAfter, tablesAfter, fronted, frontInto}
+use Rattle.image.specs.Filled.{filled}
+use Rattle.image.specs.Tabling.{TwoCounts, countsAt, counted, onCounted, tabled, typesAfter, structsAfter, structsInto, typesInto, tablesInto, placedInto, onLimited, cellsAfter, tablesAfter, fronted, frontInto}
 use Rattle.image.specs.Image.{readFormat}
 use Rattle.image.specs.Answers.{refusal, limited}
 use Rattle.image.specs.declared.Limited.{Limited}
@@ -90,7 +91,7 @@ data OpeningWithin : Opening → Type 0 where
   opened : {S T C next : ℕ} → S ≤ 32 → T ≤ 255 → OpeningWithin (front.Read S T C next)
   unopened : {q : Refusal} → OpeningWithin (front.Refused q)
 
-cells-within : (S T : ℕ) → S ≤ 32 → T ≤ 255 → (ss ts : List ℕ) (r : Limited) (cs : List ℕ) → OpeningWithin (cellsAfter S T ss ts (counting r cs) .result)
+cells-within : (S T : ℕ) → S ≤ 32 → T ≤ 255 → (ss ts : List ℕ) (r : Limited) (cs : List ℕ) → OpeningWithin (cellsAfter S T ss ts (filled r cs) .result)
 cells-within S T s t ss ts (lim.Value C next) cs = opened s t
 cells-within S T s t ss ts (lim.Refused q) cs = unopened
 

@@ -12,7 +12,8 @@ use Rattle.calculus.specs.declared.Refusal.{Refusal}
 use Rattle.numbers.specs.Reading.{groups}
 use Rattle.image.specs.Reading.{number}
 use Rattle.image.specs.Answers.{refusal}
-use Rattle.image.specs.Filling.{reading, headInto, nodeInto, expressionInto}
+use Rattle.image.specs.Filled.{filled}
+use Rattle.image.specs.Filling.{headInto, nodeInto, expressionInto}
 use Rattle.image.specs.declared.Expression.{Expression}
 use Rattle.image.specs.declared.Expression.the-variants.{Read, Refused}
 use Rattle.image.proofs.Within.{read-within, refused-within}
@@ -31,13 +32,13 @@ module _ (image : List ℕ) (at : ℕ) where
 
 module _ (image types : List ℕ) (structs at : ℕ) (t : List ℕ) where
   -- an offset behind the image: it ends there
-  pub nothing-read : length image < at → reading (Refused (refusal fault.Ends at)) t ≡ expressionInto image types structs at t
+  pub nothing-read : length image < at → filled (Refused (refusal fault.Ends at)) t ≡ expressionInto image types structs at t
   unfolding expressionInto nodeInto headInto number groups
   nothing-read h = let e : at + 0 ≡ at = omega arith in rw (nothing-left image at h, e)
 
   -- the part is handed over as `take .. (drop ..)`
-  module _ {r : Expression} {t′ : List ℕ} (e : reading r t′ ≡ nodeInto (take (length image - at) (drop at image)) types structs 64 0 0 0 t) where
-    tail-read : reading r t′ ≡ nodeInto (drop at image) types structs 64 0 0 0 t
+  module _ {r : Expression} {t′ : List ℕ} (e : filled r t′ ≡ nodeInto (take (length image - at) (drop at image)) types structs 64 0 0 0 t) where
+    tail-read : filled r t′ ≡ nodeInto (drop at image) types structs 64 0 0 0 t
     tail-read = rw (tail-whole image at) at e
 
     pub end-within : {next count : ℕ} → r ≡ Read next count → next ≤ length image - at
@@ -50,17 +51,17 @@ module _ (image types : List ℕ) (structs at : ℕ) (t : List ℕ) where
 
     -- bytes follow the expression
     pub bytes-behind : {next count : ℕ} → r ≡ Read next count → at + next < length image
-        → reading (Refused (refusal fault.Behind (at + next))) t′ ≡ expressionInto image types structs at t
+        → filled (Refused (refusal fault.Behind (at + next))) t′ ≡ expressionInto image types structs at t
     unfolding expressionInto
     bytes-behind {next} q h = rw (← tail-read, q, lt-ltb (at + next) (length image) h)
 
     pub none-behind : {next count : ℕ} → r ≡ Read next count → length image ≤ at + next
-        → reading (Read (at + next) count) t′ ≡ expressionInto image types structs at t
+        → filled (Read (at + next) count) t′ ≡ expressionInto image types structs at t
     unfolding expressionInto
     none-behind {next} q h = rw (← tail-read, q, le-ltb (at + next) (length image) h)
 
     -- a refusal inside the part
     pub refused-behind : {q : Refusal} → r ≡ Refused q
-        → reading (Refused (refusal (q .fault) (at + q .place))) t′ ≡ expressionInto image types structs at t
+        → filled (Refused (refusal (q .fault) (at + q .place))) t′ ≡ expressionInto image types structs at t
     unfolding expressionInto
     refused-behind q = rw (← tail-read, q)

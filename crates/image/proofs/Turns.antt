@@ -12,13 +12,14 @@ use Rattle.calculus.specs.declared.Fault.the-variants as fault
 use Rattle.image.specs.Reading.{got, refused, below}
 use Rattle.image.specs.Tables.{readEntry}
 use Rattle.image.specs.Answers.{mapped}
-use Rattle.image.specs.Tabling.{Filled, filled, refusedAt, fieldsInto, structInto, structsInto, among, typesInto, cellRow, readRow, rowSet, cellsInto}
+use Rattle.image.specs.Filled.{Filled, filled}
+use Rattle.image.specs.Tabling.{refusedAt, fieldsInto, structInto, structsInto, among, typesInto, cellRow, readRow, rowSet, cellsInto}
 use Rattle.calculus.specs.declared.Refusal.{Refusal}
 use Rattle.image.specs.declared.Passed.{Passed}
 use Rattle.image.specs.declared.Passed.the-variants.{To, Refused}
 
 -- a loop that fills a table: what the whole gives is what the rest gives, and the table keeps its length
-pub record Going (whole rest : Filled) (entry table : List ℕ) : Type 0 where
+pub record Going (whole rest : Filled Passed) (entry table : List ℕ) : Type 0 where
   pub same : whole ≡ rest
   pub long : length table ≡ length entry
 
@@ -29,11 +30,11 @@ pub is-zero : (n : ℕ) → n ≤ 0 → n ≡ 0
 is-zero n h = omega arith
 
 -- the end of a loop
-pub ended : {whole rest : Filled} {entry table : List ℕ} {end : Filled} → Going whole rest entry table → rest ≡ end → end ≡ whole
+pub ended : {whole rest : Filled Passed} {entry table : List ℕ} {end : Filled Passed} → Going whole rest entry table → rest ≡ end → end ≡ whole
 ended m e = sym (m .same ∙ e)
 
 -- a turn
-pub turned : {whole rest next : Filled} {entry table table′ : List ℕ} → Going whole rest entry table → rest ≡ next → length table′ ≡ length table
+pub turned : {whole rest next : Filled Passed} {entry table table′ : List ℕ} → Going whole rest entry table → rest ≡ next → length table′ ≡ length table
     → Going whole next entry table′
 turned m e l = record { same = m .same ∙ e; long = l ∙ m .long }
 

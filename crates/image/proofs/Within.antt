@@ -20,7 +20,8 @@ use Rattle.calculus.specs.declared.Refusal.{Refusal}
 use Rattle.image.specs.Reading.{Reading, got, refused, thenRead, asReading, number, below}
 use Rattle.image.specs.Tables.{readTarget}
 use Rattle.image.specs.Answers.{mapped, pointerCode}
-use Rattle.image.specs.Filling.{Filled, reading, Line, kindCode, literal, lineOf, cut, codeInto, lineInto, headInto, secondInto, partsInto, nodeInto}
+use Rattle.image.specs.Filled.{Filled, filled}
+use Rattle.image.specs.Filling.{Line, kindCode, literal, lineOf, cut, codeInto, lineInto, headInto, secondInto, partsInto, nodeInto}
 use Rattle.image.specs.declared.Parts.the-variants.{Leaf, One, Two}
 use Rattle.image.specs.declared.NodeHead.{NodeHead}
 use Rattle.image.specs.declared.NodeHead.the-variants as head
@@ -151,7 +152,7 @@ module _ (image types : List ℕ) (structs : ℕ) where
 
 -- what the code knows of an offset or a place that it was answered
 module _ (image types : List ℕ) (structs deep lets i at : ℕ) (t : List ℕ) (h : at ≤ length image) {r : Expression} {t′ : List ℕ}
-    (e : reading r t′ ≡ nodeInto image types structs deep lets i at t) where
+    (e : filled r t′ ≡ nodeInto image types structs deep lets i at t) where
   answer-within : EndsWithin (length image) r
   answer-within = rw (ap (λ (f : Filled Expression). f .result) e) (node-within image types structs deep lets i at t h)
 

@@ -11,6 +11,7 @@ use Rattle.calculus.specs.declared.Fault.the-variants as fault
 use Rattle.image.specs.Reading.{Reading, got, refused, thenRead, number, below}
 use Rattle.image.specs.Tables.{readTarget}
 use Rattle.image.specs.Answers.{refusal, mapped, pointerCode}
+use Rattle.image.specs.Filled.{Filled, filled, thenFill}
 use Rattle.image.specs.declared.Limited.{Limited}
 use Rattle.image.specs.declared.Limited.the-variants.{Value, Refused}
 use Rattle.image.specs.declared.Parts.{Parts}
@@ -21,18 +22,6 @@ use Rattle.image.specs.declared.NodeHead.{NodeHead}
 use Rattle.image.specs.declared.NodeHead.the-variants as head
 use Rattle.image.specs.declared.Expression.{Expression}
 use Rattle.image.specs.declared.Expression.the-variants as expression
-
--- what a reading answers, and the table that it leaves
-pub record Filled (A : Type 0) : Type 0 where
-  pub result : A
-  pub table : List ℕ
-
-abbrev pub reading : {A : Type 0} → A → List ℕ → Filled A
-reading r t = record { result = r; table = t }
-
--- go on with the answer and the table
-abbrev pub thenFill : {A B : Type 0} → Filled A → (A → List ℕ → Filled B) → Filled B
-thenFill f go = go (f .result) (f .table)
 
 -- what stands behind a node's code, as its row has it, and the parts that follow
 pub record Line : Type 0 where
@@ -64,11 +53,11 @@ written t i code argument kind = set (set (set (set t (4 * i) code) (4 * i + 1) 
 -- a node's code, and then what stands behind it, into row i
 abbrev pub codeInto : List ℕ → Reading ℕ → (ℕ → ℕ → Filled NodeHead) → Filled NodeHead
 codeInto t (got code next) go = go code next
-codeInto t (refused f p) go = reading (head.Refused (refusal f p)) t
+codeInto t (refused f p) go = filled (head.Refused (refusal f p)) t
 
 abbrev pub lineInto : List ℕ → (i code : ℕ) → Reading Line → Filled NodeHead
-lineInto t i code (got l next) = reading (head.Read (l .parts) next) (written t i code (l .argument) (l .kind))
-lineInto t i code (refused f p) = reading (head.Refused (refusal f p)) t
+lineInto t i code (got l next) = filled (head.Read (l .parts) next) (written t i code (l .argument) (l .kind))
+lineInto t i code (refused f p) = filled (head.Refused (refusal f p)) t
 
 -- what the code answers for an expression that the definition reads behind i nodes
 abbrev pub answered : ℕ → Reading Expr → Expression
@@ -83,16 +72,16 @@ cut at (refused f p) = expression.Refused (refusal f p)
 -- the second part of node i, inside `inside` lets, behind the first
 abbrev pub secondInto : (ℕ → ℕ → ℕ → List ℕ → Filled Expression) → (inside i : ℕ) → Expression → List ℕ → Filled Expression
 secondInto part inside i (expression.Read next count) t = part inside count next (set t (4 * i + 3) count)
-secondInto part inside i (expression.Refused r) t = reading (expression.Refused r) t
+secondInto part inside i (expression.Refused r) t = filled (expression.Refused r) t
 
 -- the parts of node i, each read by `part`, which is told the lets around it, the nodes read before it and where it starts. "A let's bound
 -- part is not inside that let."
 abbrev pub partsInto : (ℕ → ℕ → ℕ → List ℕ → Filled Expression) → (lets i : ℕ) → NodeHead → List ℕ → Filled Expression
-partsInto part lets i (head.Read parts.Leaf next) t = reading (expression.Read next (i + 1)) t
+partsInto part lets i (head.Read parts.Leaf next) t = filled (expression.Read next (i + 1)) t
 partsInto part lets i (head.Read parts.One next) t = part lets (i + 1) next t
 partsInto part lets i (head.Read (parts.Two binds) next) t =
     thenFill (part lets (i + 1) next t) (secondInto part (lets + binds) i)
-partsInto part lets i (head.Refused r) t = reading (expression.Refused r) t
+partsInto part lets i (head.Refused r) t = filled (expression.Refused r) t
 
 module _ (image types : List ℕ) where
   -- a word type by its packed code
@@ -127,12 +116,12 @@ module _ (image types : List ℕ) (structs : ℕ) where
       codeInto t (number image at)
       (λ code next.
       choose (leb 2048 i)
-      (λ _. reading (head.Refused (refusal fault.Limit at)) t)
+      (λ _. filled (head.Refused (refusal fault.Limit at)) t)
       (λ _. lineInto t i code (lineOf lets at code next)))
 
   -- a node with its parts, at most `deep` deep, into the rows from i on
   unfoldable pub nodeInto : (deep lets i at : ℕ) → List ℕ → Filled Expression
-  nodeInto zero lets i at t = reading (cut at (number image at)) t
+  nodeInto zero lets i at t = filled (cut at (number image at)) t
   nodeInto (suc deep) lets i at t = thenFill (headInto lets i at t) (partsInto (nodeInto deep) lets i)
 
 -- what was read from `at` on, with places carried back to whole-image offsets; bytes behind it are fault 8
@@ -146,4 +135,4 @@ ended image at (expression.Refused r) = expression.Refused (refusal (r .fault) (
 -- the whole expression, which starts at `at`
 unfoldable pub expressionInto : (image types : List ℕ) (structs at : ℕ) → List ℕ → Filled Expression
 expressionInto image types structs at t =
-    thenFill (nodeInto (drop at image) types structs 64 0 0 0 t) (λ r t′. reading (ended image at r) t′)
+    thenFill (nodeInto (drop at image) types structs 64 0 0 0 t) (λ r t′. filled (ended image at r) t′)

@@ -8,6 +8,7 @@ pub mod Nodes
 pub mod Image
 pub mod Tabled
 pub mod Answers
+pub mod Filled
 pub mod Tabling
 pub mod Filling
 pub mod Shape

@@ -13,6 +13,7 @@ use Rattle.image.specs.Reading.{Reading, got, refused, thenRead, number,
 use Rattle.image.specs.Tables.{readEntry}
 use Rattle.image.specs.Cells.{readAddress}
 use Rattle.image.specs.Answers.{refusal, limited, mapped}
+use Rattle.image.specs.Filled.{Filled, filled}
 use Rattle.calculus.specs.declared.Refusal.{Refusal}
 use Rattle.image.specs.Image.{readFormat}
 use Rattle.image.specs.declared.Limited.{Limited}
@@ -26,14 +27,6 @@ use Rattle.image.specs.declared.Passed.the-variants.{To, Refused}
 use Rattle.image.specs.declared.Celled.{Celled}
 use Rattle.image.specs.declared.Celled.the-variants as cell
 
--- the answer and the table
-pub record Filled : Type 0 where
-  pub result : Passed
-  pub table : List ℕ
-
-abbrev pub filled : Passed → List ℕ → Filled
-filled r t = record { result = r; table = t }
-
 abbrev pub refusedAt : Fault → ℕ → Passed
 refusedAt f p = Refused (refusal f p)
 
@@ -43,12 +36,12 @@ passed (got a next) = To next
 passed (refused f p) = refusedAt f p
 
 -- go on behind what was read; where it is refused the table stays as it is
-abbrev pub thenFill : {A : Type 0} → Reading A → List ℕ → (A → ℕ → Filled) → Filled
-thenFill (got a next) t go = go a next
-thenFill (refused f p) t go = filled (refusedAt f p) t
+abbrev pub onRead : {A : Type 0} → Reading A → List ℕ → (A → ℕ → Filled Passed) → Filled Passed
+onRead (got a next) t go = go a next
+onRead (refused f p) t go = filled (refusedAt f p) t
 
 -- go on behind a part that wrote the table
-abbrev pub onward : Passed → List ℕ → (ℕ → List ℕ → Filled) → Filled
+abbrev pub onward : Passed → List ℕ → (ℕ → List ℕ → Filled Passed) → Filled Passed
 onward (To next) t go = go next t
 onward (Refused q) t go = filled (Refused q) t
 
@@ -62,21 +55,21 @@ onLimited (lim.Value v next) stop go = go v next
 onLimited (lim.Refused q) stop go = stop q
 
 -- `left` fields, the first of them at `to`
-unfoldable pub fieldsInto : (image : List ℕ) (known left to at : ℕ) → List ℕ → Filled
+unfoldable pub fieldsInto : (image : List ℕ) (known left to at : ℕ) → List ℕ → Filled Passed
 fieldsInto image known zero to at t = filled (To at) t
 fieldsInto image known (suc left) to at t =
-    thenFill (below fault.Unknown known image at) t (λ n next. fieldsInto image known left (to + 1) next (set t to n))
+    onRead (below fault.Unknown known image at) t (λ n next. fieldsInto image known left (to + 1) next (set t to n))
 
 -- a struct, its field count at `to`
-unfoldable pub structInto : (image : List ℕ) (known to at : ℕ) → List ℕ → Filled
+unfoldable pub structInto : (image : List ℕ) (known to at : ℕ) → List ℕ → Filled Passed
 structInto image known to at t =
-    thenFill (below fault.Limit 17 image at) t
+    onRead (below fault.Limit 17 image at) t
     (λ count next. choose (eqb count 0)
     (λ _. filled (refusedAt fault.Limit at) t)
     (λ _. fieldsInto image known count (to + 1) next (set t to count)))
 
 -- `left` structs, the first of them at `to`
-unfoldable pub structsInto : (image : List ℕ) (known left to at : ℕ) → List ℕ → Filled
+unfoldable pub structsInto : (image : List ℕ) (known left to at : ℕ) → List ℕ → Filled Passed
 structsInto image known zero to at t = filled (To at) t
 structsInto image known (suc left) to at t =
     onward (structInto image known to at t .result) (structInto image known to at t .table)
@@ -88,10 +81,10 @@ among code [] = false
 among code (c ∷ cs) = either (eqb code c) (among code cs)
 
 -- `left` pointer types, the first of them at its own number
-unfoldable pub typesInto : (image : List ℕ) (S left own at : ℕ) → List ℕ → Filled
+unfoldable pub typesInto : (image : List ℕ) (S left own at : ℕ) → List ℕ → Filled Passed
 typesInto image S zero own at t = filled (To at) t
 typesInto image S (suc left) own at t =
-    thenFill (mapped packed (readEntry image S own at)) t
+    onRead (mapped packed (readEntry image S own at)) t
     (λ code next. choose (among code (take own t))
     (λ _. filled (refusedAt fault.Repeat at) t)
     (λ _. typesInto image S left (own + 1) next (set t own code)))
@@ -121,29 +114,22 @@ abbrev pub rowSet : List ℕ → (to address value code : ℕ) → List ℕ
 rowSet t to address value code = set (set (set t to address) (to + 1) value) (to + 2) code
 
 -- `left` cells behind the address `before`, the first of them at `to`
-unfoldable pub cellsInto : (image : List ℕ) (words : ℕ) (types : List ℕ) (known left before to at : ℕ) → List ℕ → Filled
+unfoldable pub cellsInto : (image : List ℕ) (words : ℕ) (types : List ℕ) (known left before to at : ℕ) → List ℕ → Filled Passed
 cellsInto image words types known zero before to at t = filled (To at) t
 cellsInto image words types known (suc left) before to at t =
-    thenFill (readRow image words known before at) t
+    onRead (readRow image words known before at) t
     (λ c next.
     cellsInto image words types known left (c .address) (to + 3) next (rowSet t to (c .address) (c .value) (getD types (c .number) 0)))
 
--- the answer of a reader whose value is a number, and the table
-pub record Counting : Type 0 where
-  pub result : Limited
-  pub table : List ℕ
-
-abbrev pub counting : Limited → List ℕ → Counting
-counting r t = record { result = r; table = t }
-
-abbrev pub countAfter : ℕ → Filled → Counting
-countAfter n f = onPassed (f .result) (λ q. counting (lim.Refused q) (f .table)) (λ end. counting (lim.Value n end) (f .table))
+-- behind the cells, of which there are n
+abbrev pub countAfter : ℕ → Filled Passed → Filled Limited
+countAfter n f = onPassed (f .result) (λ q. filled (lim.Refused q) (f .table)) (λ end. filled (lim.Value n end) (f .table))
 
 -- the count of cells and the cells
-unfoldable pub placedInto : (image : List ℕ) (words : ℕ) (types : List ℕ) (known at : ℕ) → List ℕ → Counting
+unfoldable pub placedInto : (image : List ℕ) (words : ℕ) (types : List ℕ) (known at : ℕ) → List ℕ → Filled Limited
 placedInto image words types known at t =
     onLimited (limited (below fault.Limit 4097 image at))
-    (λ q. counting (lim.Refused q) t)
+    (λ q. filled (lim.Refused q) t)
     (λ C next. countAfter C (cellsInto image words types known C 0 0 next t))
 
 -- the counts of structs and pointer types
@@ -176,10 +162,10 @@ pub record TablesFilled : Type 0 where
 abbrev pub tabled : Counted → List ℕ → List ℕ → TablesFilled
 tabled r ss ts = record { result = r; structs = ss; types = ts }
 
-abbrev pub typesAfter : (S T : ℕ) (ss : List ℕ) → Filled → TablesFilled
+abbrev pub typesAfter : (S T : ℕ) (ss : List ℕ) → Filled Passed → TablesFilled
 typesAfter S T ss f = onPassed (f .result) (λ q. tabled (both.Refused q) ss (f .table)) (λ end. tabled (both.Tables S T end) ss (f .table))
 
-abbrev pub structsAfter : (image : List ℕ) (S T : ℕ) (ts : List ℕ) → Filled → TablesFilled
+abbrev pub structsAfter : (image : List ℕ) (S T : ℕ) (ts : List ℕ) → Filled Passed → TablesFilled
 structsAfter image S T ts f =
     onPassed (f .result)
     (λ q. tabled (both.Refused q) (f .table) ts)
@@ -202,7 +188,7 @@ pub record FrontFilled : Type 0 where
 abbrev pub fronted : Opening → List ℕ → List ℕ → List ℕ → FrontFilled
 fronted r ss ts cs = record { result = r; structs = ss; types = ts; cells = cs }
 
-abbrev pub cellsAfter : (S T : ℕ) (ss ts : List ℕ) → Counting → FrontFilled
+abbrev pub cellsAfter : (S T : ℕ) (ss ts : List ℕ) → Filled Limited → FrontFilled
 cellsAfter S T ss ts f =
     onLimited (f .result) (λ q. fronted (front.Refused q) ss ts (f .table)) (λ C end. fronted (front.Read S T C end) ss ts (f .table))
 

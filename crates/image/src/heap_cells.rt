@@ -3,7 +3,8 @@ ghost use Prim.Native.Nat.{_+_, _≤_};
 ghost use mathlib.Core.Path.{_≡_};
 ghost use Rattle.image.specs.Cells.{readAddress};
 ghost use Rattle.image.specs.Answers.{limited};
-ghost use Rattle.image.specs.Tabling.{filled, celled, readRow, cellsInto, counting, placedInto};
+ghost use Rattle.image.specs.Filled.{filled};
+ghost use Rattle.image.specs.Tabling.{celled, readRow, cellsInto, placedInto};
 use crate::Celled;
 use crate::Limited;
 use crate::Passed;
@@ -23,7 +24,7 @@ pub fn read_placed(
     types: &[u64],
     known: u64,
 ) -> Limited
-    ensures { λ r. ⌜ counting r (now (cells .exit)) ≡ placedInto (now (image .entry)) words (now (types .entry)) known at (now (cells .entry)) ⌝ }
+    ensures { λ r. ⌜ filled r (now (cells .exit)) ≡ placedInto (now (image .entry)) words (now (types .entry)) known at (now (cells .entry)) ⌝ }
 {
     match read_below(image, at, 4097, Fault::Limit) {
         Limited::Value { value, next } => match read_cells(

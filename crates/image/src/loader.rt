@@ -2,7 +2,8 @@
 ghost use Prim.Native.Nat.{_+_};
 ghost use mathlib.Core.Path.{_≡_};
 ghost use lib.ListN.{take};
-ghost use Rattle.image.specs.Filling.{reading, expressionInto};
+ghost use Rattle.image.specs.Filled.{filled};
+ghost use Rattle.image.specs.Filling.{expressionInto};
 ghost use Rattle.image.specs.Loaded.{lent, loadInto};
 use crate::Counts;
 use crate::Expression;
@@ -54,7 +55,7 @@ fn read_tail(
     structs: u64,
     at: usize,
 ) -> Expression
-    ensures { λ r. ⌜ reading r (now (nodes .exit)) ≡ expressionInto (now (image .entry)) (take known (now (types .entry))) structs at (now (nodes .entry)) ⌝ }
+    ensures { λ r. ⌜ filled r (now (nodes .exit)) ≡ expressionInto (now (image .entry)) (take known (now (types .entry))) structs at (now (nodes .entry)) ⌝ }
 {
     let end = lesser(known, types.len());
     read_expression(nodes, image, &types[..end], structs, at)

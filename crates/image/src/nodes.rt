@@ -3,7 +3,8 @@ ghost use Prim.Native.Nat.{_+_, _<_, _≤_};
 ghost use mathlib.Core.Path.{_≡_};
 ghost use Rattle.image.specs.Answers.{limited};
 ghost use Rattle.image.specs.Reading.{number};
-ghost use Rattle.image.specs.Filling.{reading, rowed, argumentRow, kindRow, written, kindCode, literal, lineOf, cut, headInto, nodeInto, expressionInto};
+ghost use Rattle.image.specs.Filled.{filled};
+ghost use Rattle.image.specs.Filling.{rowed, argumentRow, kindRow, written, kindCode, literal, lineOf, cut, headInto, nodeInto, expressionInto};
 ghost use Rattle.image.specs.declared.NodeRow.the-variants.{Row};
 use crate::Expression;
 use crate::Limited;
@@ -27,7 +28,7 @@ pub fn read_expression(
     structs: u64,
     at: usize,
 ) -> Expression
-    ensures { λ r. ⌜ reading r (now (table .exit)) ≡ expressionInto (now (image .entry)) (now (types .entry)) structs at (now (table .entry)) ⌝ }
+    ensures { λ r. ⌜ filled r (now (table .exit)) ≡ expressionInto (now (image .entry)) (now (types .entry)) structs at (now (table .entry)) ⌝ }
 {
     if image.len() < at {
         return Expression::Refused(Refusal {
@@ -69,7 +70,7 @@ fn read_node(
     at: usize,
 ) -> Expression
     requires { ⌜ lets + depth ≤ 64 ⌝ }
-    ensures { λ r. ⌜ reading r (now (table .exit)) ≡ nodeInto (now (image .entry)) (now (types .entry)) structs depth lets node at (now (table .entry)) ⌝ }
+    ensures { λ r. ⌜ filled r (now (table .exit)) ≡ nodeInto (now (image .entry)) (now (types .entry)) structs depth lets node at (now (table .entry)) ⌝ }
 {
     if depth == 0 {
         return too_deep(image, at);
@@ -121,7 +122,7 @@ fn read_head(
     node: usize,
     at: usize,
 ) -> NodeHead
-    ensures { λ r. ⌜ reading r (now (table .exit)) ≡ headInto (now (image .entry)) (now (types .entry)) structs lets node at (now (table .entry)) ⌝ }
+    ensures { λ r. ⌜ filled r (now (table .exit)) ≡ headInto (now (image .entry)) (now (types .entry)) structs lets node at (now (table .entry)) ⌝ }
 {
     match read_limited(image, at) {
         Limited::Value { value, next } => {
