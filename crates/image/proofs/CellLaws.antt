@@ -1,6 +1,6 @@
 -- Of heap cells that were read: their addresses rise and lie within the heap, their values fit, and their word types are known.
 -- Assumes nothing.
-use mathlib.Core.Path.{_≡_, refl, ap}
+use mathlib.Core.Path.{_≡_, refl, _∙_, ap}
 use mathlib.Core.List.{List, [], _∷_}
 use Prim.Native.Nat.{ℕ, zero, suc, _+_, _*_, _^_, _<_, _≤_}
 use native.Mathlib.Omega.{arith}
@@ -18,11 +18,11 @@ use Rattle.image.specs.Answers.{mapped}
 use Rattle.image.specs.Tabled.{cellRows}
 use Rattle.image.specs.Reading.{Reading, got, refused, thenRead, number, below}
 use Rattle.image.specs.Cells.{readAddress, readCell, readCells}
-use Rattle.image.specs.Tabling.{CellRow, readRow, rowSet, cellsInto}
+use Rattle.image.specs.Tabling.{CellRow, readRow, cellSet, cellsInto}
 use Rattle.image.proofs.Gives.{Gives, gives, gives-none, gives-then, gives-test, gives-telling, given-by}
 use Rattle.image.proofs.Each.{Each, each-none, each-more}
 use Rattle.image.proofs.Fills.{Fills, fills, fills-telling, fills-as, fills-more}
-use Rattle.image.proofs.Sets.{front-take, front-drop}
+use Rattle.image.proofs.Sets.{stored-there, stored-length, front-take, front-drop}
 use Rattle.image.proofs.Numbers.{number-gives, below-gives}
 
 -- an address behind `before`, read at `at`
@@ -128,27 +128,31 @@ rises-on (rising a b f k e r) zero (suc j) l h = lowest r j (omega arith) .0
 rises-on (rising a b f k e r) (suc i) (suc j) l h = rises-on r i j (omega arith) (omega arith)
 rises-on (rising a b f k e r) i zero l h = absurd (omega arith)
 
--- The cell table is filled as the definition reads: `cellsInto` refuses where `readCells` refuses, and leaves the rows of what it reads.
+-- The cell table is filled as the definition reads: `cellsInto` refuses where `readCells` refuses, and leaves the rows of what it reads
+-- where the table has room for them.
 pub cells-fill : (image : List ℕ) (words : ℕ) (types : List Kind) (codes : List ℕ)
-    → ((n : ℕ) → n < length types → getD codes n 0 ≡ packed (getD types n Int)) → (left before to at : ℕ) (t : List ℕ)
-    → Fills (λ ps t′. t′ ≡ sets t to (cellRows ps)) (readCells image words types left before at) (cellsInto image words codes (length types) left before to at t)
+    → ((n : ℕ) → n < length types → getD codes n 0 ≡ packed (getD types n Int)) → (left before i at : ℕ) (t : List ℕ)
+    → Fills
+    (λ ps t′. 3 * (i + left) ≤ length t → t′ ≡ sets t (3 * i) (cellRows ps))
+    (readCells image words types left before at)
+    (cellsInto image words codes (length types) left before i at t)
 unfolding readCells cellsInto cellRows
-cells-fill image words types codes coded zero before to at t = fills {a = []} {next = at} {t = t} refl
-cells-fill image words types codes coded (suc left) before to at t =
+cells-fill image words types codes coded zero before i at t = fills {a = []} {next = at} {t = t} (λ room. refl)
+cells-fill image words types codes coded (suc left) before i at t =
     rw (cell-row image words types before at)
     (fills-telling (placedOf types) (readRow image words (length types) before at) t _ _ (row-gives image words before at (length types))
     (λ c next s. fills-as (λ ps. placedOf types c ∷ ps)
-    (cells-fill image words types codes coded left (c .address) (to + 3) next (rowSet t to (c .address) (c .value) (getD codes (c .number) 0)))
-    (λ ps _ t′ _ e. written c (s .is-known) t′ (cellRows ps) e)))
+    (cells-fill image words types codes coded left (c .address) (i + 1) next (cellSet t i (c .address) (c .value) (getD codes (c .number) 0)))
+    (λ ps _ t′ _ e room. written c (s .is-known) t′ (cellRows ps) room e)))
   where
-    written : (c : CellRow) → c .number < length types → (t′ rows : List ℕ)
-        → t′ ≡ sets (rowSet t to (c .address) (c .value) (getD codes (c .number) 0)) (to + 3) rows
-        → t′ ≡ sets t to (c .address ∷ c .value ∷ packed (getD types (c .number) Int) ∷ rows)
-    written c k t′ rows e =
-        let one : to + 1 ≡ suc to = omega arith in
-        let two : to + 2 ≡ suc (suc to) = omega arith in
-        let three : to + 3 ≡ suc (suc (suc to)) = omega arith in
-        rw (coded (c .number) k, one, two, three) at e
+    written : (c : CellRow) → c .number < length types → (t′ rows : List ℕ) → 3 * (i + suc left) ≤ length t
+        → (3 * (i + 1 + left) ≤ length (cellSet t i (c .address) (c .value) (getD codes (c .number) 0))
+        → t′ ≡ sets (cellSet t i (c .address) (c .value) (getD codes (c .number) 0)) (3 * (i + 1)) rows)
+        → t′ ≡ sets t (3 * i) (c .address ∷ c .value ∷ packed (getD types (c .number) Int) ∷ rows)
+    written c k t′ rows room e =
+        let row : List ℕ = c .address ∷ c .value ∷ getD codes (c .number) 0 ∷ [] in
+        let three : 3 * (i + 1) ≡ suc (suc (suc (3 * i))) = omega arith in
+        e (omega (arith, stored-length 3 t i row)) ∙ rw (stored-there 3 t i row (omega arith), coded (c .number) k, three)
 
 -- the table holds the cells at its front, the rest as it was
 pub record CellTable (k : ℕ) (t : List ℕ) (ps : List Placed) (t′ : List ℕ) : Type 0 where
@@ -166,7 +170,7 @@ pub cells-held : (image : List ℕ) (words : ℕ) (types : List Kind) (codes : L
     → Fills (λ ps t′. 3 * k ≤ length t → CellTable k t ps t′) (readCells image words types k 0 at) (cellsInto image words codes (length types) k 0 0 at t)
 cells-held image words types codes coded k at t =
     fills-more (cells-fill image words types codes coded k 0 0 at t)
-    (λ ps next t′ g e room. table ps t′ (given-by (cells-give image words types k 0 at) g .long) e room)
+    (λ ps next t′ g e room. table ps t′ (given-by (cells-give image words types k 0 at) g .long) (e (omega arith)) room)
   where
     table : (ps : List Placed) (t′ : List ℕ) → length ps ≡ k → t′ ≡ sets t 0 (cellRows ps) → 3 * k ≤ length t → CellTable k t ps t′
     table ps t′ l e room =

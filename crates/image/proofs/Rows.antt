@@ -1,14 +1,15 @@
 -- Rows of the node table: what stands in a row that was written, what stays, and that an expression is held as long as its rows stay.
 -- Assumes nothing.
 use mathlib.Core.Path.{_≡_, _∙_}
-use mathlib.Core.List.{List}
+use mathlib.Core.List.{List, [], _∷_}
 use Prim.Native.Nat.{ℕ, _+_, _*_, _<_, _≤_}
 use native.Mathlib.Omega.{arith}
-use lib.ListN.{length, getD, set, take, length-set}
-use lib.Seq.{getD-set-same, getD-set-other, getD-take}
+use lib.ListN.{length, getD, take}
+use lib.Seq.{sets, getD-take}
 use Rattle.calculus.specs.Expr.{Expr, nodes}
 use Rattle.image.specs.Tabled.{Row, Spans, s-lit, s-var, s-malloc, s-bind, s-one, s-two}
 use Rattle.image.specs.Filling.{written}
+use Rattle.image.proofs.Sets.{sets-there, stored-there, stored-length, stored-before, stored-behind}
 
 -- all but the rows from i up to j is as it was
 pub record Kept (t : List ℕ) (i j : ℕ) (t′ : List ℕ) : Type 0 where
@@ -22,51 +23,32 @@ pub record Opened (t : List ℕ) (i : ℕ) (t′ : List ℕ) (code argument kind
   pub row : 4 * i + 3 < length t → Row t′ i code argument kind 0
 
 module _ (t : List ℕ) (i code argument kind : ℕ) where
-  -- the table after the first, the second and the third store
-  abbrev first : List ℕ
-  first = set t (4 * i) code
-
-  abbrev second : List ℕ
-  second = set first (4 * i + 1) argument
-
-  abbrev third : List ℕ
-  third = set second (4 * i + 2) kind
-
-  written-other : (k : ℕ) → ((c : ℕ) → c < 4 → k ≡ 4 * i + c → ⊥) → getD (written t i code argument kind) k 0 ≡ getD t k 0
-  written-other k n =
-      getD-set-other third (4 * i + 3) k 0 0 (n 3 (omega arith))
-      ∙ getD-set-other second (4 * i + 2) k kind 0 (n 2 (omega arith))
-      ∙ getD-set-other first (4 * i + 1) k argument 0 (n 1 (omega arith))
-      ∙ getD-set-other t (4 * i) k code 0 (λ e. n 0 (omega arith) (omega arith))
+  abbrev numbers : List ℕ
+  numbers = code ∷ argument ∷ kind ∷ 0 ∷ []
 
   row-written : 4 * i + 3 < length t → Row (written t i code argument kind) i code argument kind 0
   row-written h =
-      let h₁ : length first ≡ length t = length-set t (4 * i) code in
-      let h₂ : length second ≡ length first = length-set first (4 * i + 1) argument in
-      let h₃ : length third ≡ length second = length-set second (4 * i + 2) kind in
+      let z : 4 * i + 0 ≡ 4 * i = omega arith in
+      rw (stored-there 4 t i numbers (omega arith)) (
       record {
-        code-is =
-            getD-set-other third (4 * i + 3) (4 * i) 0 0 (λ e. omega arith)
-            ∙ getD-set-other second (4 * i + 2) (4 * i) kind 0 (λ e. omega arith)
-            ∙ getD-set-other first (4 * i + 1) (4 * i) argument 0 (λ e. omega arith)
-            ∙ getD-set-same t (4 * i) code 0 (omega arith);
-        argument-is =
-            getD-set-other third (4 * i + 3) (4 * i + 1) 0 0 (λ e. omega arith)
-            ∙ getD-set-other second (4 * i + 2) (4 * i + 1) kind 0 (λ e. omega arith)
-            ∙ getD-set-same first (4 * i + 1) argument 0 (omega arith);
-        kind-is =
-            getD-set-other third (4 * i + 3) (4 * i + 2) 0 0 (λ e. omega arith) ∙ getD-set-same second (4 * i + 2) kind 0 (omega arith);
-        second-is = getD-set-same third (4 * i + 3) 0 0 (omega arith);
+        code-is = rw z at (there 0 (omega arith));
+        argument-is = there 1 (omega arith);
+        kind-is = there 2 (omega arith);
+        second-is = there 3 (omega arith);
       }
+      )
+    where
+      there : (j : ℕ) → j < 4 → getD (sets t (4 * i) numbers) (4 * i + j) 0 ≡ getD numbers j 0
+      there j l = sets-there t (4 * i) numbers j (omega arith) l
 
   pub written-opens : Opened t i (written t i code argument kind) code argument kind
   written-opens =
       record {
         kept =
             record {
-              long = simp length-set;
-              front = λ k h. written-other k (λ c l e. omega arith);
-              back = λ k h. written-other k (λ c l e. omega arith);
+              long = stored-length 4 t i numbers;
+              front = stored-before 4 t i numbers;
+              back = λ k h. stored-behind 4 t i numbers k (omega arith);
             };
         row = row-written;
       }

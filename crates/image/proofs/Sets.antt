@@ -1,12 +1,16 @@
--- Numbers that were written to a table in a row: what stands at each index, and the table before and behind them.
+-- Numbers that were written to a table in a row: what stands at each index, and the table before and behind them; and rows of a table.
 -- Assumes nothing.
 use mathlib.Core.Path.{_≡_, refl, _∙_, ap}
 use mathlib.Core.List.{List, [], _∷_, _++_}
-use Prim.Native.Nat.{ℕ, zero, suc, _+_, _<_, _≤_, min}
+use Prim.Native.Nat.{ℕ, zero, suc, _+_, _*_, _/_, _<_, _≤_, min}
 use native.Mathlib.Nat.{zero-add, zero-min, suc-min-suc}
 use native.Mathlib.Omega.{arith}
 use lib.ListN.{length, getD, set, take, drop, length-set}
-use lib.Seq.{sets, sets-eq, getD-set-same, getD-set-other, take-at, drop-at, take-nil}
+use lib.Dec.{ltb}
+use lib.Seq.{sets, sets-eq, length-sets, getD-set-same, getD-set-other, take-at, drop-at, take-nil}
+use borrow.Author.Tests.{lt-ltb, le-ltb}
+use Rattle.choice.specs.Choice.{choose-case}
+use Rattle.image.specs.Filled.{stored}
 
 -- what stands before the numbers is as it was
 pub sets-before : (t : List ℕ) (to : ℕ) (ns : List ℕ) (i : ℕ) → i < to → getD (sets t to ns) i 0 ≡ getD t i 0
@@ -28,6 +32,41 @@ sets-there t to (n ∷ ns) zero l h =
 sets-there t to (n ∷ ns) (suc j) l h =
     let e : to + suc j ≡ suc to + j = omega arith in
     rw e (sets-there (set t to n) (suc to) ns j (omega (arith, length-set t to n)) (omega arith))
+
+-- three or four numbers, one store after another
+module _ (t : List ℕ) (to a b c : ℕ) where
+  pub sets-three : set (set (set t to a) (to + 1) b) (to + 2) c ≡ sets t to (a ∷ b ∷ c ∷ [])
+  sets-three =
+      let one : to + 1 ≡ suc to = omega arith in
+      let two : to + 2 ≡ suc (suc to) = omega arith in
+      rw (one, two)
+
+  pub sets-four : (d : ℕ) → set (set (set (set t to a) (to + 1) b) (to + 2) c) (to + 3) d ≡ sets t to (a ∷ b ∷ c ∷ d ∷ [])
+  sets-four d = let three : to + 3 ≡ suc (suc (suc to)) = omega arith in rw (sets-three, three)
+
+-- a row of a table
+module _ (width : ℕ) (t : List ℕ) (i : ℕ) (row : List ℕ) where
+  pub stored-there : i < length t / width → stored width t i row ≡ sets t (width * i) row
+  unfolding stored
+  stored-there h = rw (lt-ltb i (length t / width) h)
+
+  pub stored-none : length t / width ≤ i → stored width t i row ≡ t
+  unfolding stored
+  stored-none h = rw (le-ltb i (length t / width) h)
+
+  pub stored-length : length (stored width t i row) ≡ length t
+  unfolding stored
+  stored-length = choose-case (λ (l : List ℕ). length l ≡ length t) (ltb i (length t / width)) _ _ (length-sets t (width * i) row) refl
+
+  pub stored-before : (k : ℕ) → k < width * i → getD (stored width t i row) k 0 ≡ getD t k 0
+  unfolding stored
+  stored-before k h =
+      choose-case (λ (l : List ℕ). getD l k 0 ≡ getD t k 0) (ltb i (length t / width)) _ _ (sets-before t (width * i) row k h) refl
+
+  pub stored-behind : (k : ℕ) → width * i + length row ≤ k → getD (stored width t i row) k 0 ≡ getD t k 0
+  unfolding stored
+  stored-behind k h =
+      choose-case (λ (l : List ℕ). getD l k 0 ≡ getD t k 0) (ltb i (length t / width)) _ _ (sets-behind t (width * i) row k h) refl
 
 -- numbers written from the front on: they are the front, and the rest is as it was
 module _ (t ns : List ℕ) (room : length ns ≤ length t) where

@@ -13,7 +13,7 @@ use Rattle.image.specs.Reading.{got, refused, below}
 use Rattle.image.specs.Tables.{readEntry}
 use Rattle.image.specs.Answers.{mapped}
 use Rattle.image.specs.Filled.{Filled, filled}
-use Rattle.image.specs.Tabling.{refusedAt, fieldsInto, structInto, structsInto, among, typesInto, cellRow, readRow, rowSet, cellsInto}
+use Rattle.image.specs.Tabling.{refusedAt, fieldsInto, structInto, structsInto, among, typesInto, cellRow, readRow, cellSet, cellsInto}
 use Rattle.calculus.specs.declared.Refusal.{Refusal}
 use Rattle.image.specs.declared.Passed.{Passed}
 use Rattle.image.specs.declared.Passed.the-variants.{To, Refused}
@@ -89,19 +89,19 @@ module _ (image : List ℕ) (S left own at : ℕ) (t : List ℕ) where
     unfolding typesInto
     types-refused e = rw (s, e)
 
-module _ (image : List ℕ) (words : ℕ) (types : List ℕ) (known left before to at : ℕ) (t : List ℕ) where
-  pub cells-done : left ≡ 0 → cellsInto image words types known left before to at t ≡ filled (To at) t
+module _ (image : List ℕ) (words : ℕ) (types : List ℕ) (known left before i at : ℕ) (t : List ℕ) where
+  pub cells-done : left ≡ 0 → cellsInto image words types known left before i at t ≡ filled (To at) t
   unfolding cellsInto
   cells-done z = rw z
 
   module _ (l : ℕ) (s : left ≡ suc l) where
     pub cells-turn : {a v n next : ℕ} → readRow image words known before at ≡ got (cellRow a v n) next
-        → cellsInto image words types known left before to at t
-        ≡ cellsInto image words types known l a (to + 3) next (rowSet t to a v (getD types n 0))
+        → cellsInto image words types known left before i at t
+        ≡ cellsInto image words types known l a (i + 1) next (cellSet t i a v (getD types n 0))
     unfolding cellsInto
     cells-turn e = rw (s, e)
 
     pub cells-refused : {f : Fault} {p : ℕ} → readRow image words known before at ≡ refused f p
-        → cellsInto image words types known left before to at t ≡ filled (refusedAt f p) t
+        → cellsInto image words types known left before i at t ≡ filled (refusedAt f p) t
     unfolding cellsInto
     cells-refused e = rw (s, e)

@@ -2,7 +2,7 @@
 -- read, and the number of its second part once the first is read. The types are the packed codes of the word types, and of the structs
 -- only the count is told.
 use Prim.Native.Nat.{ℕ, zero, suc, _+_, _*_}
-use mathlib.Core.List.{List}
+use mathlib.Core.List.{List, [], _∷_}
 use lib.Dec.{eqb, leb, ltb}
 use lib.ListN.{length, getD, set, drop}
 use Rattle.choice.specs.Choice.{choose}
@@ -11,7 +11,7 @@ use Rattle.calculus.specs.declared.Fault.the-variants as fault
 use Rattle.image.specs.Reading.{Reading, got, refused, thenRead, number, below}
 use Rattle.image.specs.Tables.{readTarget}
 use Rattle.image.specs.Answers.{refusal, mapped, pointerCode}
-use Rattle.image.specs.Filled.{Filled, filled, thenFill}
+use Rattle.image.specs.Filled.{Filled, filled, thenFill, stored}
 use Rattle.image.specs.declared.Limited.{Limited}
 use Rattle.image.specs.declared.Limited.the-variants.{Value, Refused}
 use Rattle.image.specs.declared.Parts.{Parts}
@@ -48,7 +48,7 @@ kindRow a (Refused r) p = row.Refused r
 
 -- row i of the table, the number of a second part not being known
 abbrev pub written : List ℕ → (i code argument kind : ℕ) → List ℕ
-written t i code argument kind = set (set (set (set t (4 * i) code) (4 * i + 1) argument) (4 * i + 2) kind) (4 * i + 3) 0
+written t i code argument kind = stored 4 t i (code ∷ argument ∷ kind ∷ 0 ∷ [])
 
 -- a node's code, and then what stands behind it, into row i
 abbrev pub codeInto : List ℕ → Reading ℕ → (ℕ → ℕ → Filled NodeHead) → Filled NodeHead

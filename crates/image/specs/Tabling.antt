@@ -13,7 +13,7 @@ use Rattle.image.specs.Reading.{Reading, got, refused, thenRead, number,
 use Rattle.image.specs.Tables.{readEntry}
 use Rattle.image.specs.Cells.{readAddress}
 use Rattle.image.specs.Answers.{refusal, limited, mapped}
-use Rattle.image.specs.Filled.{Filled, filled}
+use Rattle.image.specs.Filled.{Filled, filled, stored}
 use Rattle.calculus.specs.declared.Refusal.{Refusal}
 use Rattle.image.specs.Image.{readFormat}
 use Rattle.image.specs.declared.Limited.{Limited}
@@ -109,17 +109,17 @@ abbrev pub celled : Reading CellRow → Celled
 celled (got c next) = cell.Cell (c .address) (c .value) (c .number) next
 celled (refused f p) = cell.Refused (refusal f p)
 
--- the table with a cell in the three numbers from `to` on
-abbrev pub rowSet : List ℕ → (to address value code : ℕ) → List ℕ
-rowSet t to address value code = set (set (set t to address) (to + 1) value) (to + 2) code
+-- the table with a cell in row i
+abbrev pub cellSet : List ℕ → (i address value code : ℕ) → List ℕ
+cellSet t i address value code = stored 3 t i (address ∷ value ∷ code ∷ [])
 
--- `left` cells behind the address `before`, the first of them at `to`
-unfoldable pub cellsInto : (image : List ℕ) (words : ℕ) (types : List ℕ) (known left before to at : ℕ) → List ℕ → Filled Passed
-cellsInto image words types known zero before to at t = filled (To at) t
-cellsInto image words types known (suc left) before to at t =
+-- `left` cells behind the address `before`, the first of them in row i
+unfoldable pub cellsInto : (image : List ℕ) (words : ℕ) (types : List ℕ) (known left before i at : ℕ) → List ℕ → Filled Passed
+cellsInto image words types known zero before i at t = filled (To at) t
+cellsInto image words types known (suc left) before i at t =
     onRead (readRow image words known before at) t
     (λ c next.
-    cellsInto image words types known left (c .address) (to + 3) next (rowSet t to (c .address) (c .value) (getD types (c .number) 0)))
+    cellsInto image words types known left (c .address) (i + 1) next (cellSet t i (c .address) (c .value) (getD types (c .number) 0)))
 
 -- behind the cells, of which there are n
 abbrev pub countAfter : ℕ → Filled Passed → Filled Limited

@@ -4,7 +4,7 @@ ghost use mathlib.Core.Path.{_≡_};
 ghost use Rattle.image.specs.Cells.{readAddress};
 ghost use Rattle.image.specs.Answers.{limited};
 ghost use Rattle.image.specs.Filled.{filled};
-ghost use Rattle.image.specs.Tabling.{celled, readRow, cellsInto, placedInto};
+ghost use Rattle.image.specs.Tabling.{celled, readRow, cellSet, cellsInto, placedInto};
 use crate::Celled;
 use crate::Limited;
 use crate::Passed;
@@ -12,7 +12,6 @@ use crate::number::read_below;
 use crate::number::read_limited;
 use calculus::Fault;
 use calculus::Refusal;
-use cells::put;
 use cells::word;
 
 // The count of cells at `at`, and the cells behind it: the count, and the offset behind them.
@@ -58,7 +57,7 @@ fn read_cells(
 {
     let mut left = count;
     let mut before: u64 = 0;
-    let mut to: usize = 0;
+    let mut i: usize = 0;
     let mut at = first;
     while left > 0 {
         match read_cell(image, at, words, before, known) {
@@ -68,18 +67,27 @@ fn read_cells(
                 number,
                 next,
             } => {
-                put(cells, to, address);
-                put(cells, to + 1, value);
-                put(cells, to + 2, word(types, number as usize));
+                put_cell(cells, i, address, value, word(types, number as usize));
                 left -= 1;
                 before = address;
-                to += 3;
+                i += 1;
                 at = next;
             }
             Celled::Refused(refusal) => return Passed::Refused(refusal),
         }
     }
     Passed::To(at)
+}
+
+// Cell i of the table; past the table's end nothing changes. One test serves the cell.
+fn put_cell(cells: &mut [u64], i: usize, address: u64, value: u64, code: u64)
+    ensures { λ r. ⌜ now (cells .exit) ≡ cellSet (now (cells .entry)) i address value code ⌝ }
+{
+    if i < cells.len() / 3 {
+        cells[3 * i] = address;
+        cells[3 * i + 1] = value;
+        cells[3 * i + 2] = code;
+    }
 }
 
 // The cell at `at` behind the address `before`.

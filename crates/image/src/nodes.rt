@@ -149,15 +149,16 @@ fn read_head(
     }
 }
 
-// The row of a node, whose second part, if it has one, is not reached yet.
+// The row of a node, whose second part, if it has one, is not reached yet; past the table's end nothing changes. One test serves the row.
 fn write_row(table: &mut [u64], node: usize, code: u64, argument: u64, kind: u64)
-    requires { ⌜ node < 2048 ⌝ }
     ensures { λ r. ⌜ now (table .exit) ≡ written (now (table .entry)) node code argument kind ⌝ }
 {
-    put(table, 4 * node, code);
-    put(table, 4 * node + 1, argument);
-    put(table, 4 * node + 2, kind);
-    put(table, 4 * node + 3, 0);
+    if node < table.len() / 4 {
+        table[4 * node] = code;
+        table[4 * node + 1] = argument;
+        table[4 * node + 2] = kind;
+        table[4 * node + 3] = 0;
+    }
 }
 
 // What stands at `at`, behind a node's code, which is at `first`.

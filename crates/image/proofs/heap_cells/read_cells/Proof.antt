@@ -1,7 +1,7 @@
 -- `image::heap_cells::read_cells` fills the table as `cellsInto` says. The loop's invariant is `Going`: what is left to read gives what
 -- the whole gives; and no address is above W. The measure is how many cells are left. Assumes nothing.
 use mathlib.Core.Path.{refl, _∙_}
-use Prim.Native.Nat.{_+_, _*_, _≤_}
+use Prim.Native.Nat.{_+_, _≤_}
 use native.Mathlib.Omega.{arith}
 use Rattle.image.specs.Tabling.{readRow, cellsInto}
 use Rattle.image.proofs.Answered.{was-cell, was-no-cell}
@@ -13,13 +13,13 @@ use Rattle.image.proofs.heap_cells.read_cells.Statement.{statement}
 use Rattle.image.proofs.heap_cells.read_cells.Tie as tie
 
 abbrev Inv-loop : tie.InvT-loop
-Inv-loop cells₀ image first words types known count left₀ before₀ to₀ at₀ cells left before to at =
-    Going (cellsInto image words types known count 0 0 first cells₀) (cellsInto image words types known left before to at cells) cells₀ cells
-    × (to + 3 * left ≤ 12288)
+Inv-loop cells₀ image first words types known count left₀ before₀ i₀ at₀ cells left before i at =
+    Going (cellsInto image words types known count 0 0 first cells₀) (cellsInto image words types known left before i at cells) cells₀ cells
+    × (i + left ≤ 4096)
     × (before ≤ words)
 
 abbrev μ-loop : tie.MeasureT-loop
-μ-loop cells₀ image first words types known count left₀ before₀ to₀ at₀ cells left before to at = left
+μ-loop cells₀ image first words types known count left₀ before₀ i₀ at₀ cells left before i at = left
 
 loop-holds : tie.Need-loop-holds Inv-loop μ-loop
 loop-holds c = (record { same = refl; long = refl }, omega (arith, c .before .before .before .pre), omega arith)
@@ -30,44 +30,27 @@ read-cell-requires c κs = search needs
 enum-known-address : tie.Need-enum-known-address Inv-loop μ-loop
 enum-known-address c = search needs
 
-put-requires : tie.Need-put-requires Inv-loop μ-loop
-put-requires c κs = search needs
-
-add-put : tie.Need-add-put Inv-loop μ-loop
-add-put c = search needs
-
-put-requires-2 : tie.Need-put-requires-2 Inv-loop μ-loop
-put-requires-2 c κs = search needs
-
-add-put-2 : tie.Need-add-put-2 Inv-loop μ-loop
-add-put-2 c = search needs
-
 word-requires : tie.Need-word-requires Inv-loop μ-loop
 word-requires c κs = search needs
 
-put-requires-3 : tie.Need-put-requires-3 Inv-loop μ-loop
-put-requires-3 c κs = search needs
+put-cell-requires : tie.Need-put-cell-requires Inv-loop μ-loop
+put-cell-requires c κs = search needs
 
 sub-left : tie.Need-sub-left Inv-loop μ-loop
 sub-left c = search needs
 
-add-to : tie.Need-add-to Inv-loop μ-loop
-add-to c = search needs
+add-i : tie.Need-add-i Inv-loop μ-loop
+add-i c = search needs
 
 loop-less : tie.Need-loop-less Inv-loop μ-loop
 loop-less c = search needs
 
 loop-again : tie.Need-loop-again Inv-loop μ-loop
 loop-again c =
-    let row = was-cell (readRow _ _ _ _ _) (c .before .before .before .before .before .before .before .before .before .before .before .before .before .before .before .before .read-cell .ensures) (c .before .before .before .before .before .before .before .before .before .before .before .before .before .before .address .given .1) in (
-      turned (c .before .before .before .before .before .before .before .before .before .before .before .before .before .before .before .before .before .before .loop .inv .0)
-          (cells-turn _ _ _ _ _ _ _ _ _ _ (is-suc _ (c .before .before .before .before .before .before .before .before .before .before .before .before .before .before .before .before .before .loop-test .taken)) row ∙ rw (
-            c .before .before .put3 .ensures,
-            c .before .before .before .word .ensures,
-            c .before .before .before .before .before .before .before .put2 .ensures,
-            c .before .before .before .before .before .before .before .before .before .before .before .put .ensures,
-          ))
-          (c .before .before .put3 .kept .0 ∙ c .before .before .before .before .before .before .before .put2 .kept .0 ∙ c .before .before .before .before .before .before .before .before .before .before .before .put .kept .0),
+    let row = was-cell (readRow _ _ _ _ _) (c .before .before .before .before .before .before .before .before .read-cell .ensures) (c .before .before .before .before .before .before .address .given .1) in (
+      turned (c .before .before .before .before .before .before .before .before .before .before .loop .inv .0)
+          (cells-turn _ _ _ _ _ _ _ _ _ _ (is-suc _ (c .before .before .before .before .before .before .before .before .before .loop-test .taken)) row ∙ rw (c .before .before .put-cell .ensures, c .before .before .before .word .ensures))
+          (c .before .before .put-cell .kept .0),
       omega arith,
       given-by (row-gives _ _ _ _ _) row .inside,
     )
@@ -98,14 +81,10 @@ read-cells-spec =
     loop-holds
     read-cell-requires
     enum-known-address
-    put-requires
-    add-put
-    put-requires-2
-    add-put-2
     word-requires
-    put-requires-3
+    put-cell-requires
     sub-left
-    add-to
+    add-i
     loop-less
     loop-again
     enum-known-refusal
