@@ -2,10 +2,11 @@
 use mathlib.Core.Path.{_≡_, refl, sym, _∙_, ap}
 use mathlib.Core.Logic.{_⊎_, inl, inr, ⊎-elim}
 use mathlib.Core.List.{List, [], _∷_}
-use Prim.Native.Nat.{ℕ, zero, suc, _+_, _*_, _≤_, _<_}
+use Prim.Native.Nat.{ℕ, zero, suc, _+_, _*_, _/_, _≤_, _<_}
 use native.Mathlib.Decide.{ℕ-discrete}
 use native.Mathlib.Omega.{arith}
-use lib.ListN.{length, replicate, length-replicate}
+use lib.Dec.{leb·suc-suc}
+use lib.ListN.{length, getD, replicate, length-replicate}
 use Rattle.cells.specs.Code.{packed, unpacked}
 use Rattle.cells.specs.Heap.{Heap, look, update}
 use Rattle.cells.specs.declared.Cell.{Cell}
@@ -16,15 +17,26 @@ use Rattle.calculus.specs.Setting.{cell}
 use Rattle.calculus.proofs.Same.{not-held}
 use Rattle.image.specs.Content.{Placed, placed, heapOf}
 use Rattle.image.specs.Tabled.{cellRows}
-use Rattle.judge.specs.Tables.{entryAt}
+use Rattle.judge.specs.Tables.{numberAt, entryAt}
 use Rattle.judge.specs.Find.{entries}
 use Rattle.judge.specs.Readied.{Rising, none, more}
+use Rattle.judge.proofs.Lists.{in-row}
 use Rattle.judge.proofs.Tabled.{literalAt, HoldsHeap}
 
 -- number k of the entry behind the first
 next : (p : Placed) (ps : List Placed) (j k : ℕ) → entryAt (cellRows (p ∷ ps)) (suc j) k ≡ entryAt (cellRows ps) j k
+unfolding cellRows numberAt
+next p ps j k =
+    let e : 3 * suc j + k ≡ suc (suc (suc (3 * j + k))) = omega arith in
+    let d : suc (suc (suc (length (cellRows ps)))) / 3 ≡ suc (length (cellRows ps) / 3) = omega arith in
+    rw (d, leb·suc-suc, e)
+
+-- number k of the first
+first : (p : Placed) (ps : List Placed) (k : ℕ) → entryAt (cellRows (p ∷ ps)) 0 k ≡ getD (cellRows (p ∷ ps)) k 0
 unfolding cellRows
-next p ps j k = let e : 3 * suc j + k ≡ suc (suc (suc (3 * j + k))) = omega arith in rw e
+first p ps k =
+    let e : 3 * 0 + k ≡ k = omega arith in
+    rw (in-row 3 (cellRows (p ∷ ps)) 0 k (omega arith), e)
 
 rows : (ps : List Placed) → length (cellRows ps) ≡ 3 * length ps
 unfolding cellRows
@@ -39,7 +51,7 @@ address : {words a : ℕ} {ps : List Placed} → Rising words a ps → (j : ℕ)
     → (a < entryAt (cellRows ps) j 0) × (entryAt (cellRows ps) j 0 ≤ words)
 unfolding cellRows
 address none j l = absurd (omega arith)
-address (more b w s r) zero l = (b, w)
+address (more {p} {ps} b w s r) zero l = rw (first p ps 0) (b, w)
 address (more {p} {ps} b w s r) (suc j) l =
     let (c, d) = address r j (omega arith) in
     rw (next p ps j 0) (omega (arith, c, d))
@@ -49,14 +61,14 @@ rises : {words a : ℕ} {ps : List Placed} → Rising words a ps → (i j : ℕ)
 unfolding cellRows
 rises none i j h l = absurd (omega arith)
 rises (more b w s r) i zero h l = absurd (omega arith)
-rises (more {p} {ps} b w s r) zero (suc j) h l = rw (next p ps j 0) (address r j (omega arith) .0)
+rises (more {p} {ps} b w s r) zero (suc j) h l = rw (first p ps 0, next p ps j 0) (address r j (omega arith) .0)
 rises (more {p} {ps} b w s r) (suc i) (suc j) h l = rw (next p ps i 0, next p ps j 0) (rises r i j (omega arith) (omega arith))
 
 exact : {words a : ℕ} {ps : List Placed} → Rising words a ps → (j : ℕ) → j < length ps
     → packed (unpacked (entryAt (cellRows ps) j 2)) ≡ entryAt (cellRows ps) j 2
 unfolding cellRows
 exact none j l = absurd (omega arith)
-exact (more b w s r) zero l = ap packed (round-trip s)
+exact (more {p} {ps} b w s r) zero l = rw (first p ps 2) (ap packed (round-trip s))
 exact (more {p} {ps} b w s r) (suc j) l = rw (next p ps j 2) (exact r j (omega arith))
 
 -- what stands at or before the first address is not touched by the cells
@@ -71,9 +83,10 @@ held : {words a : ℕ} {ps : List Placed} → Rising words a ps → (H : Heap) �
 unfolding cellRows placed
 held none H e j l = absurd (omega arith)
 held (more {p} {ps} b w s r) H e zero l =
-    untouched r (update H (p .address) (p .held)) (p .address) (omega arith)
+    rw (first p ps 0, first p ps 1, first p ps 2)
+    (untouched r (update H (p .address) (p .held)) (p .address) (omega arith)
     ∙ look-same H (p .address) (p .held) (omega arith) (omega arith)
-    ∙ ap (λ (κ : _). Holds (cell (p .held .value) κ)) (sym (round-trip s))
+    ∙ ap (λ (κ : _). Holds (cell (p .held .value) κ)) (sym (round-trip s)))
 held (more {p} {ps} b w s r) H e (suc j) l =
     rw (next p ps j 0, next p ps j 1, next p ps j 2)
     (held r (update H (p .address) (p .held)) (length-update H (p .address) (p .held) ∙ e) j (omega arith))
@@ -89,7 +102,7 @@ defined (more {p} {ps} h w s r) H b d e =
   where
     here : Dec (b ≡ p .address) → look (update H (p .address) (p .held)) b ≡ Holds d
         → (look H b ≡ Holds d) ⊎ ((j : ℕ) × (j < length (p ∷ ps)) × (entryAt (cellRows (p ∷ ps)) j 0 ≡ b))
-    here (yes f) g = inr (0, omega arith, sym f)
+    here (yes f) g = inr (0, omega arith, first p ps 0 ∙ sym f)
     here (no n) g = inl (sym (look-other H (p .address) b (p .held) n) ∙ g)
 
 pub holds-heap : {words : ℕ} {ps : List Placed} → Rising words 0 ps → HoldsHeap (heapOf words ps) (cellRows ps)

@@ -1,10 +1,16 @@
--- Of a number in a list: past the end it is the number that is told, within the list it is the same whatever is told.
+-- Of a number in a list: past the end it is the number that is told, within the list it is the same whatever is told. Of a number in a
+-- table of rows: it is that of the list if the row is whole.
 use mathlib.Core.Path.{_≡_, refl, sym, _∙_}
+use mathlib.Core.Bool.{Bool, true, false}
 use mathlib.Core.List.{List, [], _∷_, _++_, append-nil}
-use Prim.Native.Nat.{ℕ, zero, suc, _≤_, _<_}
+use Prim.Native.Nat.{ℕ, zero, suc, _+_, _*_, _/_, _≤_, _<_}
 use native.Mathlib.Omega.{arith}
+use lib.Dec.{ltb}
 use lib.ListN.{length, getD, drop, replicate, List·getD-eq-default}
 use lib.Seq.{drop-length}
+use borrow.Author.Tests.{lt-ltb, ltb-true}
+use Rattle.choice.specs.Choice.{choose}
+use Rattle.judge.specs.Tables.{numberAt}
 
 pub past : (l : List ℕ) (n d : ℕ) → length l ≤ n → d ≡ getD l n d
 past l n d h = sym (List·getD-eq-default l d h)
@@ -14,11 +20,23 @@ within [] n d e h = absurd (omega arith)
 within (x ∷ l) zero d e h = refl
 within (x ∷ l) (suc n) d e h = within l n d e (omega arith)
 
--- a number other than 0 is within the list
-pub inside : (l : List ℕ) (n : ℕ) → (getD l n 0 ≡ 0 → ⊥) → n < length l
-inside [] n h = absurd (h refl)
-inside (x ∷ l) zero h = omega arith
-inside (x ∷ l) (suc n) h = omega (arith, inside l n h)
+-- ---- the rows of a table
+module _ (width : ℕ) (table : List ℕ) (i k : ℕ) where
+  pub in-row : i < length table / width → numberAt width table i k ≡ getD table (width * i + k) 0
+  unfolding numberAt
+  in-row h = rw (lt-ltb i (length table / width) h)
+
+  -- a number other than 0 is in a row of the table
+  pub has-number : (numberAt width table i k ≡ 0 → ⊥) → i < length table / width
+  unfolding numberAt
+  has-number n = go (ltb i (length table / width)) (ltb-true i (length table / width)) n
+    where
+      go : (t : Bool) → (t ≡ true → i < length table / width)
+          → (choose t (λ _. getD table (width * i + k) 0) (λ _. 0) ≡ 0 → ⊥) → i < length table / width
+      go true f m = f refl
+      go false f m = absurd (m refl)
+
+-- ---- marks
 
 -- a list of which the first i are 0 and that has no more than i is all 0
 pub filled : (entry marks : List ℕ) (i : ℕ) → marks ≡ replicate i 0 ++ drop i entry → length marks ≡ length entry → length marks ≤ i

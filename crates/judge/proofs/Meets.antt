@@ -37,14 +37,30 @@ use Rattle.judge.specs.Rules.{partsOf, isAccess, innerMode, innerLets, b
 use Rattle.judge.specs.Nodes.{Judging, judging, thenJudging, pairRule, judgeNode}
 use Rattle.judge.specs.declared.Told.{Told}
 use Rattle.judge.specs.declared.Told.the-variants as told
+use Rattle.judge.proofs.Lists.{in-row}
 use Rattle.judge.proofs.Tabled.{HoldsSetting}
 use Rattle.judge.proofs.Shapes.{size-of}
 use Rattle.judge.proofs.Passed.{wellAt, FirstBad}
 use Rattle.judge.proofs.Ruled.{Tells, tells-good, tells-bad, tells-if, access-tells, assign-tells, field-tells, cast-tells, sum-tells, access-sum-tells}
 
 -- ---- rows
-row-code : {t : List ℕ} {i code argument kind second : ℕ} → Row t i code argument kind second → rowAt t i 0 ≡ code
-row-code {i = i} r = let e : 4 * i + 0 ≡ 4 * i = omega arith in rw e (r .code-is)
+-- row i of the table, by the numbers that the judge reads
+record Reads (t : List ℕ) (i code argument kind second : ℕ) : Type 0 where
+  code-is : rowAt t i 0 ≡ code
+  argument-is : rowAt t i 1 ≡ argument
+  kind-is : rowAt t i 2 ≡ kind
+  second-is : rowAt t i 3 ≡ second
+
+reads : {t : List ℕ} {i code argument kind second : ℕ} → i < length t / 4 → Row t i code argument kind second
+    → Reads t i code argument kind second
+reads {t} {i} l r =
+    let e : 4 * i + 0 ≡ 4 * i = omega arith in
+    record {
+      code-is = in-row 4 t i 0 l ∙ rw e (r .code-is);
+      argument-is = in-row 4 t i 1 l ∙ r .argument-is;
+      kind-is = in-row 4 t i 2 l ∙ r .kind-is;
+      second-is = in-row 4 t i 3 l ∙ r .second-is;
+    }
 
 -- ---- the kinds of bound variables
 -- the list has the codes of the kinds in scope, the innermost last
@@ -193,7 +209,7 @@ module _ {S : Setting} {H : Heap} {structs types table : List ℕ} {first : ℕ}
       ⊎-elim (λ f. absurd (n (sym e ∙ rw f (fb .literal (rw f at l))))) (λ k. k) (eq-or-lt-of-le h)
 
   module _ (Γ : List Kind) (bound : List ℕ) (m : Mode) (i : ℕ) (b : Bounds Γ bound) (l : i < length table / 4) (h : i ≤ first) where
-    literal-meets : {n : ℕ} {κ : Kind} → Row table i 0 n (packed κ) 0 → Small κ
+    literal-meets : {n : ℕ} {κ : Kind} → Reads table i 0 n (packed κ) 0 → Small κ
         → Meets first Γ bound (i + 1) (choose (literalWell S H n κ) (λ _. good κ) (λ _. bad IllTyped i))
         (judging (model.leafRule bound structs table first (length Γ) i) bound)
     unfolding model.leafRule model.literalRule
@@ -201,62 +217,62 @@ module _ {S : Setting} {H : Heap} {structs types table : List ℕ} {first : ℕ}
         let t : wellAt S H table i ≡ literalWell S H n κ = rw (r .argument-is, r .kind-is, round-trip s) in
         ⊎-elim
         (λ f. let w : literalWell S H n κ ≡ false = sym t ∙ rw f (fb .bad (rw f at l)) in
-        rw (row-code r, w, le-ltb i first (omega arith)) meets-bad)
-        (λ k. let w : literalWell S H n κ ≡ true = sym t ∙ fb .before i k (row-code r) in
-        rw (row-code r, w, lt-ltb i first k, r .kind-is) (meets-good s b refl (omega arith)))
+        rw (r .code-is, w, le-ltb i first (omega arith)) meets-bad)
+        (λ k. let w : literalWell S H n κ ≡ true = sym t ∙ fb .before i k (r .code-is) in
+        rw (r .code-is, w, lt-ltb i first k, r .kind-is) (meets-good s b refl (omega arith)))
         (eq-or-lt-of-le h)
 
-    variable-meets : {k : ℕ} → Row table i 1 k 0 0
+    variable-meets : {k : ℕ} → Reads table i 1 k 0 0
         → Meets first Γ bound (i + 1) (choose (ltb k (length Γ)) (λ _. good (getD Γ k Int)) (λ _. bad NoRule i))
         (judging (model.leafRule bound structs table first (length Γ) i) bound)
     unfolding model.leafRule model.variableRule
-    variable-meets {k} r = rw (row-code r, r .argument-is) (go (ltb k (length Γ)) refl)
+    variable-meets {k} r = rw (r .code-is, r .argument-is) (go (ltb k (length Γ)) refl)
       where
         go : (t : Bool) → ltb k (length Γ) ≡ t
             → Meets first Γ bound (i + 1) (choose t (λ _. good (getD Γ k Int)) (λ _. bad NoRule i))
             (judging (choose t (λ _. told.Good (getD bound (length Γ - 1 - k) 0)) (λ _. model.noRule i)) bound)
         go true e =
             rw (b .codes k (ltb-true k (length Γ) e))
-            (meets-good (b .small k) b refl (omega (arith, beyond i 1 (row-code r) (λ z. omega arith) l h)))
+            (meets-good (b .small k) b refl (omega (arith, beyond i 1 (r .code-is) (λ z. omega arith) l h)))
         go false e = meets-bad
 
-    malloc-meets : (ω : Target) → Row table i 3 0 (packed (pointer Checked ω)) 0 → Small (pointer Checked ω)
+    malloc-meets : (ω : Target) → Reads table i 3 0 (packed (pointer Checked ω)) 0 → Small (pointer Checked ω)
         → Meets first Γ bound (i + 1) (choose (ltb 0 (size S (pointer Checked ω))) (λ _. good (pointer Checked ω)) (λ _. bad NoRule i))
         (judging (model.leafRule bound structs table first (length Γ) i) bound)
     unfolding model.leafRule model.mallocRule
     malloc-meets ω r s =
         let z : sizeOf structs (packed (pointer Checked ω)) ≡ size S (pointer Checked ω) =
         size-of hs (packed (pointer Checked ω)) ∙ ap (size S) (round-trip s) in
-        rw (row-code r, r .kind-is, z)
+        rw (r .code-is, r .kind-is, z)
         (ruled (tells-if (ltb 0 (size S (pointer Checked ω))) (pointer Checked ω) i (λ _. s)) b refl
-        (omega (arith, beyond i 3 (row-code r) (λ e. omega arith) l h)))
+        (omega (arith, beyond i 3 (r .code-is) (λ e. omega arith) l h)))
 
   -- the rules at a node
-  one-tells : (m : Mode) (i : ℕ) {o : One} {κ : Kind} → SmallOne o → Row table i (oneCode o) (oneArgument o) (oneKind o) 0 → Small κ
+  one-tells : (m : Mode) (i : ℕ) {o : One} {κ : Kind} → SmallOne o → Reads table i (oneCode o) (oneArgument o) (oneKind o) 0 → Small κ
       → Tells (definition.oneRule S m i o κ) (model.oneRule structs types table m i (packed κ))
   unfolding model.oneRule
-  one-tells m i small-unchecked r s = rw (row-code r) (tells-good s)
-  one-tells m i {κ = κ} (small-cast t) r s = rw (row-code r, r .kind-is) (cast-tells hs m i t κ)
-  one-tells m i small-read r s = rw (row-code r) (access-tells hs m i s)
-  one-tells m i (small-field {f}) r s = rw (row-code r, r .argument-is) (field-tells hs m i f s)
+  one-tells m i small-unchecked r s = rw (r .code-is) (tells-good s)
+  one-tells m i {κ = κ} (small-cast t) r s = rw (r .code-is, r .kind-is) (cast-tells hs m i t κ)
+  one-tells m i small-read r s = rw (r .code-is) (access-tells hs m i s)
+  one-tells m i (small-field {f}) r s = rw (r .code-is, r .argument-is) (field-tells hs m i f s)
 
-  two-tells : (m : Mode) (i : ℕ) (o : Two) (role : Role) {second : ℕ} {κ κ′ : Kind} → Row table i (twoCode o) 0 0 second → Small κ → Small κ′
+  two-tells : (m : Mode) (i : ℕ) (o : Two) (role : Role) {second : ℕ} {κ κ′ : Kind} → Reads table i (twoCode o) 0 0 second → Small κ → Small κ′
       → Tells (definition.twoRule S m i role o κ κ′) (pairRule structs types table first (asAccess role) m i (packed κ) (packed κ′))
   unfolding pairRule model.twoRule
-  two-tells m i assign whole r s s′ = rw (row-code r) (assign-tells hs m i whole s s′)
-  two-tells m i assign access r s s′ = rw (row-code r) (assign-tells hs m i access s s′)
-  two-tells m i sum whole r s s′ = rw (row-code r) (sum-tells S m i s s′)
-  two-tells m i sum access r s s′ = rw (row-code r) (access-sum-tells S m i s s′)
+  two-tells m i assign whole r s s′ = rw (r .code-is) (assign-tells hs m i whole s s′)
+  two-tells m i assign access r s s′ = rw (r .code-is) (assign-tells hs m i access s s′)
+  two-tells m i sum whole r s s′ = rw (r .code-is) (sum-tells S m i s s′)
+  two-tells m i sum access r s s′ = rw (r .code-is) (access-sum-tells S m i s s′)
 
   -- a let has the type of its body
-  let-told : (m : Mode) (i : ℕ) (as-access : Bool) {second : ℕ} (x y : ℕ) → Row table i 2 0 0 second
+  let-told : (m : Mode) (i : ℕ) (as-access : Bool) {second : ℕ} (x y : ℕ) → Reads table i 2 0 0 second
       → pairRule structs types table first as-access m i x y ≡ told.Good y
   unfolding pairRule model.twoRule
-  let-told m i true x y r = rw (row-code r)
-  let-told m i false x y r = rw (row-code r)
+  let-told m i true x y r = rw (r .code-is)
+  let-told m i false x y r = rw (r .code-is)
 
   let-meets : (m : Mode) (i : ℕ) (as-access : Bool) (x : ℕ) {second end end′ : ℕ} {Γ : List Kind} {κ : Kind} {bound bound₁ : List ℕ} {v : Verdict} {j : Judging}
-      → Row table i 2 0 0 second → length bound₁ ≡ length bound → Meets first (κ ∷ Γ) bound₁ end v j → end′ ≤ end
+      → Reads table i 2 0 0 second → length bound₁ ≡ length bound → Meets first (κ ∷ Γ) bound₁ end v j → end′ ≤ end
       → Meets first Γ bound end′ v (thenJudging j (λ y bound₂. judging (pairRule structs types table first as-access m i x y) bound₂))
   let-meets m i as-access x r k (meets-good {κ = ε} s b l e) h =
       rw (let-told m i as-access x (packed ε) r) (meets-good s (bounds-less b) (l ∙ k) (omega arith))
@@ -266,44 +282,50 @@ module _ {S : Setting} {H : Heap} {structs types table : List ℕ} {first : ℕ}
       → nodes e ≤ left → i + nodes e ≤ length table / 4 → i ≤ first → Bounds Γ bound → length Γ + nested e ≤ length bound
       → Meets first Γ bound (i + nodes e) (judge S H role Γ m i e) (judgeNode structs types table first left (asAccess role) (length Γ) m i bound)
   unfolding judge nodes nested partsOf
-  meets (s-lit {i} r) (small-lit s) role Γ m left bound n l h b d =
-      rw (is-suc left n, leaf-opened structs types table first (left - 1) (asAccess role) (length Γ) m i bound 0 (row-code r) refl)
+  meets (s-lit {i} row) (small-lit s) role Γ m left bound n l h b d =
+      let r = reads (omega arith) row in
+      rw (is-suc left n, leaf-opened structs types table first (left - 1) (asAccess role) (length Γ) m i bound 0 (r .code-is) refl)
       (literal-meets Γ bound m i b (omega arith) h r s)
-  meets (s-var {i} r) small-var role Γ m left bound n l h b d =
-      rw (is-suc left n, leaf-opened structs types table first (left - 1) (asAccess role) (length Γ) m i bound 1 (row-code r) refl)
+  meets (s-var {i} row) small-var role Γ m left bound n l h b d =
+      let r = reads (omega arith) row in
+      rw (is-suc left n, leaf-opened structs types table first (left - 1) (asAccess role) (length Γ) m i bound 1 (r .code-is) refl)
       (variable-meets Γ bound m i b (omega arith) h r)
-  meets (s-malloc {i} {ω} r) (small-malloc s) role Γ m left bound n l h b d =
-      rw (is-suc left n, leaf-opened structs types table first (left - 1) (asAccess role) (length Γ) m i bound 3 (row-code r) refl)
+  meets (s-malloc {i} {ω} row) (small-malloc s) role Γ m left bound n l h b d =
+      let r = reads (omega arith) row in
+      rw (is-suc left n, leaf-opened structs types table first (left - 1) (asAccess role) (length Γ) m i bound 3 (r .code-is) refl)
       (malloc-meets Γ bound m i b (omega arith) h ω r s)
-  meets (s-bind {i} {a} {b = e} r p q) (small-bind s t) role Γ m left bound n l h b d =
+  meets (s-bind {i} {a} {b = e} row p q) (small-bind s t) role Γ m left bound n l h b d =
+      let r = reads (omega arith) row in
       rw (
         is-suc left (omega arith),
-        two-opened structs types table first (left - 1) (asAccess role) (length Γ) m i bound 2 (row-code r) refl,
+        two-opened structs types table first (left - 1) (asAccess role) (length Γ) m i bound 2 (r .code-is) refl,
       )
       (then-meets (λ κ. judge S H whole (κ ∷ Γ) m (suc i + nodes a) e)
       (λ x bound₁. thenJudging (judgeNode structs types table first (left - 1) false (innerLets 2 (length Γ)) m (rowAt table i 3) (boundWith 2 (length Γ) x bound₁))
       (λ y bound₂. judging (pairRule structs types table first (asAccess role) m i x y) bound₂))
-      (meets p s whole Γ m (left - 1) bound (omega arith) (omega arith) (beyond i 2 (row-code r) (λ z. omega arith) (omega arith) h) b (omega arith))
+      (meets p s whole Γ m (left - 1) bound (omega arith) (omega arith) (beyond i 2 (r .code-is) (λ z. omega arith) (omega arith) h) b (omega arith))
       (λ κ bound₁ w b₁ k e₁. rw (r .second-is, add-one (length Γ))
       (let-meets m i (asAccess role) (packed κ) r (length-set bound₁ (length Γ) (packed κ) ∙ k)
       (meets q t whole (κ ∷ Γ) m (left - 1) (set bound₁ (length Γ) (packed κ)) (omega arith) (omega arith) e₁
       (bounds-more b₁ w (omega arith)) (rw length-set (omega arith)))
       (omega arith))))
-  meets (s-one {i} {o} {e} r p) (small-one t s) role Γ m left bound n l h b d =
+  meets (s-one {i} {o} {e} row p) (small-one t s) role Γ m left bound n l h b d =
+      let r = reads (omega arith) row in
       rw (
         is-suc left (omega arith),
-        one-opened structs types table first (left - 1) (asAccess role) (length Γ) m i bound (oneCode o) (row-code r) (one-parts o),
+        one-opened structs types table first (left - 1) (asAccess role) (length Γ) m i bound (oneCode o) (r .code-is) (one-parts o),
         one-role o,
         one-inside o m,
       )
       (then-meets (definition.oneRule S m i o) (λ x bound₁. judging (model.oneRule structs types table m i x) bound₁)
       (meets p s (oneRole o) Γ (inside o m) (left - 1) bound (omega arith) (omega arith)
-      (beyond i (oneCode o) (row-code r) (one-some o) (omega arith) h) b d)
+      (beyond i (oneCode o) (r .code-is) (one-some o) (omega arith) h) b d)
       (λ κ bound₁ w b₁ k e₁. ruled (one-tells m i t r w) b₁ k (omega arith)))
-  meets (s-two {i} {o} {a} {b = e} r p q) (small-two s t) role Γ m left bound n l h b d =
+  meets (s-two {i} {o} {a} {b = e} row p q) (small-two s t) role Γ m left bound n l h b d =
+      let r = reads (omega arith) row in
       rw (
         is-suc left (omega arith),
-        two-opened structs types table first (left - 1) (asAccess role) (length Γ) m i bound (twoCode o) (row-code r) (two-parts o),
+        two-opened structs types table first (left - 1) (asAccess role) (length Γ) m i bound (twoCode o) (r .code-is) (two-parts o),
         two-role o,
         two-inside o m,
       )
@@ -312,7 +334,7 @@ module _ {S : Setting} {H : Heap} {structs types table : List ℕ} {first : ℕ}
       (judgeNode structs types table first (left - 1) false (innerLets (twoCode o) (length Γ)) m (rowAt table i 3) (boundWith (twoCode o) (length Γ) x bound₁))
       (λ y bound₂. judging (pairRule structs types table first (asAccess role) m i x y) bound₂))
       (meets p s (twoRole o) Γ m (left - 1) bound (omega arith) (omega arith)
-      (beyond i (twoCode o) (row-code r) (two-some o) (omega arith) h) b (omega arith))
+      (beyond i (twoCode o) (r .code-is) (two-some o) (omega arith) h) b (omega arith))
       (λ κ bound₁ w b₁ k e₁. rw (two-lets o (length Γ), two-bound o (length Γ) (packed κ) bound₁, r .second-is)
       (then-meets (definition.twoRule S m i role o κ)
       (λ y bound₂. judging (pairRule structs types table first (asAccess role) m i (packed κ) y) bound₂)

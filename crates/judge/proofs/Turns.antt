@@ -3,7 +3,7 @@
 use mathlib.Core.Path.{_≡_, refl, sym, _∙_}
 use mathlib.Core.Bool.{Bool, true, false}
 use mathlib.Core.List.{List}
-use Prim.Native.Nat.{ℕ, zero, suc, _+_, _-_, _*_, _<_, _≤_}
+use Prim.Native.Nat.{ℕ, zero, suc, _+_, _-_, _<_, _≤_}
 use native.Mathlib.Omega.{arith}
 use lib.Dec.{eqb}
 use lib.ListN.{length}
@@ -16,7 +16,7 @@ use Rattle.judge.specs.Tables.{rowAt}
 use Rattle.judge.specs.Rules.{noRule, leafRule, oneRule, twoRule, accessSum, partsOf, isAccess, innerMode, innerLets, boundWith}
 use Rattle.judge.specs.Nodes.{Judging, judging, pairRule, judgeNode}
 use Rattle.judge.specs.declared.Told.the-variants.{Good, Bad}
-use Rattle.judge.proofs.Lists.{inside}
+use Rattle.judge.proofs.Lists.{has-number}
 
 is-suc : (n : ℕ) → (n ≡ 0 → ⊥) → n ≡ suc (n - 1)
 is-suc n h = omega arith
@@ -24,10 +24,10 @@ is-suc n h = omega arith
 -- a node that has parts stands in the table
 pub has-row : (nodes : List ℕ) (i : ℕ) → (partsOf (rowAt nodes i 0) ≡ 0 → ⊥) → i < length nodes
 unfolding partsOf
-has-row nodes i h = omega (arith, inside nodes (4 * i + 0) (λ e. h (rw e)))
+has-row nodes i h = omega (arith, has-number 4 nodes i 0 (λ e. h (rw e)))
 
 pub sum-row : (nodes : List ℕ) (i : ℕ) → rowAt nodes i 0 ≡ 8 → i < length nodes
-sum-row nodes i e = omega (arith, inside nodes (4 * i + 0) (λ z. let f : _≡_ {A = ℕ} 0 8 = sym z ∙ e in omega arith))
+sum-row nodes i e = omega (arith, has-number 4 nodes i 0 (λ z. let f : _≡_ {A = ℕ} 0 8 = sym z ∙ e in omega arith))
 
 -- an access is in the mode around it
 access-mode : (code : ℕ) (mode : Mode) → isAccess code ≡ true → innerMode code mode ≡ mode

@@ -1,18 +1,22 @@
 -- Numbers of the lent tables by their place, 0 where there is none, and the size of a target by its pointer's code.
 use Prim.Native.Nat.{ℕ, _+_, _*_, _/_, _%_}
 use mathlib.Core.List.{List}
-use lib.Dec.{eqb}
-use lib.ListN.{getD}
+use lib.Dec.{eqb, ltb}
+use lib.ListN.{length, getD}
 use Rattle.choice.specs.Choice.{choose}
 use Rattle.cells.specs.Code.{numberIn, countIn}
 
+-- number k of row i of a table whose rows have this width; a row that isn't whole isn't there
+unfoldable pub numberAt : (width : ℕ) (table : List ℕ) (i k : ℕ) → ℕ
+numberAt width table i k = choose (ltb i (length table / width)) (λ _. getD table (width * i + k) 0) (λ _. 0)
+
 -- number k of node i's row: code, argument, packed kind or target, number of the second part
 abbrev pub rowAt : List ℕ → ℕ → ℕ → ℕ
-rowAt nodes i k = getD nodes (4 * i + k) 0
+rowAt nodes i k = numberAt 4 nodes i k
 
 -- number k of entry j of the cell table: address, value, code of the kind
 abbrev pub entryAt : List ℕ → ℕ → ℕ → ℕ
-entryAt cells j k = getD cells (3 * j + k) 0
+entryAt cells j k = numberAt 3 cells j k
 
 -- the word type number of field i of struct s
 abbrev pub fieldAt : List ℕ → ℕ → ℕ → ℕ

@@ -1,25 +1,31 @@
--- `judge::tables::entry` gives the number of a cell's entry, 0 past the end. Assumes nothing.
-use Prim.Native.Nat.{_+_, _*_}
-use native.Mathlib.Omega.{arith}
-use Rattle.judge.proofs.Lists.{past}
+-- `judge::tables::entry` gives the number of a cell's entry, 0 if it isn't whole. Assumes nothing.
+use borrow.Author.Tests.{lt-ltb, le-ltb}
+use Rattle.judge.specs.Tables.{numberAt}
 use borrow.Author.Needs.{needs}
 use Rattle.judge.proofs.tables.entry.Statement.{statement}
 use Rattle.judge.proofs.tables.entry.Tie as tie
 
-mul-word : tie.Need-mul-word
-mul-word c = search needs
+mul-result : tie.Need-mul-result
+mul-result c = search needs
 
-add-word : tie.Need-add-word
-add-word c = search needs
+add-result : tie.Need-add-result
+add-result c = search needs
 
-word-requires : tie.Need-word-requires
-word-requires c κs = search needs
+mul-result-2 : tie.Need-mul-result-2
+mul-result-2 c = search needs
+
+shared-slice-read-result : tie.Need-shared-slice-read-result
+shared-slice-read-result c = search needs
 
 returns : tie.Need-returns
-returns c = search needs
+unfolding numberAt
+returns c = rw (lt-ltb _ _ (c .before .if1 .taken))
 
 returns-2 : tie.Need-returns-2
-returns-2 c = past (c .before .before .args .cells .now) (3 * c .before .before .args .j + c .before .before .args .k) 0 (omega arith)
+unfolding numberAt
+returns-2 c = rw (le-ltb _ _ (c .if1 .left))
 
 pub entry-spec : {M : Type 1} → statement M
-entry-spec = tie.close (tie.spec mul-word add-word word-requires returns returns-2)
+entry-spec =
+    tie.close
+    (tie.spec mul-result add-result mul-result-2 shared-slice-read-result returns returns-2)
