@@ -9,7 +9,7 @@ use lib.ListN.{length, length-set, getD, set}
 use borrow.Author.Tests.{ltb-true, leb-false}
 use Rattle.choice.specs.Choice.{choose, choose-case}
 use Rattle.judge.specs.Tables.{entryAt, rowAt}
-use Rattle.judge.specs.Find.{present, covered, entries, lowestFrom}
+use Rattle.judge.specs.Find.{present, covered, entries, place}
 use Rattle.judge.specs.Marks.{Seen, seen, marked, markedAll}
 use Rattle.judge.specs.Literals.{Looking, on, off, span, agrees, look, drain, literal, nodeLook, thenLook}
 
@@ -40,7 +40,7 @@ present-fits cells n j address more = go (leb n j) (leb (n - j) more) (leb-false
 pub covered-fits : (cells : List ℕ) (address more : ℕ) → Fits cells more (covered cells address more)
 unfolding covered
 covered-fits cells address more =
-    let j : ℕ = lowestFrom cells address (entries cells) 0 (entries cells) in
+    let j : ℕ = place cells (entries cells) address in
     choose-told (Fits cells more) (present cells (entries cells) j address more) (λ _. j) (λ _. entries cells)
     (λ t. record { fits = λ _. present-fits cells (entries cells) j address more t })
     (λ _. record { fits = λ n. absurd (n refl) })

@@ -1,5 +1,5 @@
 -- Of the search in a cell table with rising addresses: what is found is there, word by word, and what is there is found.
-use mathlib.Core.Path.{_≡_, refl}
+use mathlib.Core.Path.{_≡_, refl, sym, _∙_}
 use mathlib.Core.Logic.{⊎-elim}
 use mathlib.Core.Bool.{Bool, true, false}
 use mathlib.Core.List.{List}
@@ -10,7 +10,8 @@ use lib.Dec.{eqb, ltb, leb}
 use borrow.Author.Tests.{ltb-true, ltb-false, lt-leb, leb-true, leb-false, eqb-true, eq-eqb}
 use Rattle.choice.specs.Choice.{choose}
 use Rattle.judge.specs.Tables.{entryAt}
-use Rattle.judge.specs.Find.{middle, entries, lowestFrom, present, covered}
+use Rattle.judge.specs.Find.{middle, entries, lowestFrom, place, present, covered}
+use Rattle.judge.proofs.Lists.{has-number}
 use Rattle.judge.proofs.Room.{choose-told}
 use Rattle.judge.proofs.Tabled.{Entry}
 
@@ -59,21 +60,41 @@ module _ (cells : List ℕ) (rising : (i j : ℕ) → i < j → j < entries cell
       (λ t. let h : high ≤ low = ltb-false low high t in
       record { within = omega arith; before = b; behind = λ i k m. f i (omega arith) m })
 
-  abbrev sought : ℕ → ℕ
-  sought v = lowestFrom cells v (entries cells) 0 (entries cells)
+  abbrev searched : ℕ → ℕ
+  searched v = lowestFrom cells v (entries cells) 0 (entries cells)
 
-  sought-first : (v : ℕ) → First v (sought v)
-  sought-first v = lowest v (entries cells) 0 (entries cells) (omega arith) (omega arith) (omega arith) (λ i h. absurd (omega arith)) (λ i h k. absurd (omega arith))
+  searched-first : (v : ℕ) → First v (searched v)
+  searched-first v = lowest v (entries cells) 0 (entries cells) (omega arith) (omega arith) (omega arith) (λ i h. absurd (omega arith)) (λ i h k. absurd (omega arith))
 
-  -- an entry with the address is the one that is found
-  sought-at : (v : ℕ) (e : Entry cells v) → sought v ≡ e .index
-  sought-at v e = le-antisymm (not-behind (sought v) (sought-first v)) (not-before (sought v) (sought-first v))
+  -- an entry with the address is the one that the search finds
+  searched-at : (v : ℕ) (e : Entry cells v) → searched v ≡ e .index
+  searched-at v e = le-antisymm (not-behind (searched v) (searched-first v)) (not-before (searched v) (searched-first v))
     where
       not-behind : (j : ℕ) → First v j → j ≤ e .index
       not-behind j f = not-lt (λ h. omega (arith, f .before (e .index) h, e .is))
 
       not-before : (j : ℕ) → First v j → e .index ≤ j
       not-before j f = not-lt (λ h. omega (arith, f .behind j (omega arith) (omega (arith, e .below)), rising j (e .index) h (e .below), e .is))
+
+  -- no two entries have one address
+  alone : (i j : ℕ) → i < entries cells → j < entries cells → entryAt cells i 0 ≡ entryAt cells j 0 → i ≡ j
+  alone i j h k e = le-antisymm (not-lt (λ l. omega (arith, rising j i l h))) (not-lt (λ l. omega (arith, rising i j l k)))
+
+  -- a guess that has the address is an entry
+  guess-below : (v : ℕ) → Entry cells v → entryAt cells (v - 1) 0 ≡ v → v - 1 < entries cells
+  guess-below zero e h = omega (arith, e .below)
+  guess-below (suc v) e h = has-number 3 cells (suc v - 1) 0 (λ z. omega arith)
+
+  abbrev sought : ℕ → ℕ
+  sought v = place cells (entries cells) v
+
+  -- so the guess, if it has the address, is what the search would find
+  sought-at : (v : ℕ) (e : Entry cells v) → sought v ≡ e .index
+  unfolding place
+  sought-at v e =
+      choose-told (λ j. j ≡ e .index) (eqb (entryAt cells (v - 1) 0) v) (λ _. v - 1) (λ _. searched v)
+      (λ t. let h : entryAt cells (v - 1) 0 ≡ v = eqb-true _ v t in alone (v - 1) (e .index) (guess-below v e h) (e .below) (h ∙ sym (e .is)))
+      (λ t. searched-at v e)
 
   -- the words from v on, `more` behind the first, are entries from j on
   pub record Consecutive (v more j : ℕ) : Type 0 where

@@ -1,4 +1,4 @@
--- Finding addresses in the cell table: the search by halves, and consecutive words by one comparison.
+-- Finding addresses in the cell table: a guess and the search by halves, and consecutive words by one comparison.
 use Prim.Native.Nat.{ℕ, zero, suc, _+_, _-_, _/_}
 use mathlib.Core.Bool.{Bool, false}
 use mathlib.Core.List.{List}
@@ -20,6 +20,11 @@ lowestFrom cells address (suc deep) low high =
     (λ _. lowestFrom cells address deep low (middle low high)))
     (λ _. low)
 
+-- the entry with this address, or where it would stand: in a heap without gaps the cell at address a is entry a - 1
+unfoldable pub place : (cells : List ℕ) (n address : ℕ) → ℕ
+place cells n address =
+    choose (eqb (entryAt cells (address - 1) 0) address) (λ _. address - 1) (λ _. lowestFrom cells address n 0 n)
+
 -- entry j, of n, has this address, and the entry `more` further on has an address that much higher
 unfoldable pub present : (cells : List ℕ) (n j address more : ℕ) → Bool
 present cells n j address more =
@@ -33,5 +38,5 @@ entries cells = length cells / 3
 -- the entry of the first of the words from an address on, `more` behind the first; the count of entries if they aren't all present
 unfoldable pub covered : (cells : List ℕ) (address more : ℕ) → ℕ
 covered cells address more =
-    let j : ℕ = lowestFrom cells address (entries cells) 0 (entries cells) in
+    let j : ℕ = place cells (entries cells) address in
     choose (present cells (entries cells) j address more) (λ _. j) (λ _. entries cells)

@@ -4,19 +4,19 @@ use borrow.Author.Needs.{needs}
 use Rattle.judge.proofs.find.covered.Statement.{statement}
 use Rattle.judge.proofs.find.covered.Tie as tie
 
-lowest-from-requires : tie.Need-lowest-from-requires
-lowest-from-requires c κs = search needs
+place-requires : tie.Need-place-requires
+place-requires c κs = search needs
 
 present-requires : tie.Need-present-requires
 present-requires c κs = search needs
 
 returns : tie.Need-returns
 unfolding covered
-returns c = rw (← c .before .before .lowest-from .ensures, ← c .before .present .ensures, c .if1 .taken)
+returns c = rw (← c .before .before .place .ensures, ← c .before .present .ensures, c .if1 .taken)
 
 returns-2 : tie.Need-returns-2
 unfolding covered
-returns-2 c = rw (← c .before .before .lowest-from .ensures, ← c .before .present .ensures, c .if1 .left)
+returns-2 c = rw (← c .before .before .place .ensures, ← c .before .present .ensures, c .if1 .left)
 
 pub covered-spec : {M : Type 1} → statement M
-covered-spec = tie.close (tie.spec lowest-from-requires present-requires returns returns-2)
+covered-spec = tie.close (tie.spec place-requires present-requires returns returns-2)
