@@ -2,9 +2,8 @@
 // looked at in turn. Marks stay from literal to literal: what was found good stays good.
 ghost use Prim.Native.Nat.{_+_, _<_, _≤_, _^_};
 ghost use mathlib.Core.Path.{_≡_};
-ghost use lib.ListN.{length};
 ghost use Rattle.judge.specs.Marks.{seen};
-ghost use Rattle.judge.specs.Literals.{span, claim, agrees, look, drain, literal, nodeLook, firstBad, looking, found};
+ghost use Rattle.judge.specs.Literals.{span, claim, agrees, look, literal, nodeLook, firstBad, looking, found};
 use crate::Looked;
 use crate::find::covered;
 use crate::marks::mark_all;
@@ -93,37 +92,8 @@ fn look(
     Looked::Off
 }
 
-// The entries in the queue from `first` on are looked at, one after another, with those that join it.
-fn drain(
-    marks: &mut [u64],
-    queue: &mut [u64],
-    structs: &[u64],
-    types: &[u64],
-    cells: &[u64],
-    first: usize,
-    last: usize,
-) -> Looked
-    requires { do ⌜ last ≤ (← ⟦queue.len()⟧) ⌝ }
-    ensures { λ r. ⌜ looking r (now (marks .exit)) (now (queue .exit))
-        ≡ drain (now (structs .entry)) (now (types .entry)) (now (cells .entry)) (length (now (queue .entry))) first
-        (seen (now (marks .entry)) (now (queue .entry)) last) ⌝ }
-{
-    let mut head = first;
-    let mut tail = last;
-    while head < tail {
-        let j = index(word(queue, head));
-        let value = entry(cells, j, 1);
-        let code = entry(cells, j, 2);
-        let Looked::On(next) = look(marks, queue, structs, types, cells, tail, value, code) else {
-            return Looked::Off;
-        };
-        tail = next;
-        head += 1;
-    }
-    Looked::On(tail)
-}
-
-// A literal and all that is reached from it.
+// A literal and all that is reached from it: the entries that join the queue are looked at in turn. The look is called in one place, so
+// that the compiler can put it there and a word that needs no other costs no call.
 fn literal(
     marks: &mut [u64],
     queue: &mut [u64],
@@ -138,10 +108,23 @@ fn literal(
     ensures { λ r. ⌜ looking r (now (marks .exit)) (now (queue .exit))
         ≡ literal (now (structs .entry)) (now (types .entry)) (now (cells .entry)) value code (seen (now (marks .entry)) (now (queue .entry)) tail) ⌝ }
 {
-    let Looked::On(next) = look(marks, queue, structs, types, cells, tail, value, code) else {
-        return Looked::Off;
-    };
-    drain(marks, queue, structs, types, cells, tail, next)
+    let mut head = tail;
+    let mut end = tail;
+    let mut held = value;
+    let mut kind = code;
+    loop {
+        let Looked::On(next) = look(marks, queue, structs, types, cells, end, held, kind) else {
+            return Looked::Off;
+        };
+        if next <= head {
+            return Looked::On(next);
+        }
+        let j = index(word(queue, head));
+        held = entry(cells, j, 1);
+        kind = entry(cells, j, 2);
+        end = next;
+        head += 1;
+    }
 }
 
 // Node i, if it is a literal.
