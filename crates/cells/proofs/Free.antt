@@ -1,5 +1,5 @@
 -- Of runs of free addresses: when one begins at an address, how the search for the lowest goes on, and what it gives.
-use mathlib.Core.Path.{_≡_, refl, _∙_}
+use mathlib.Core.Path.{_≡_, refl, sym, _∙_}
 use mathlib.Core.Bool.{Bool, true, false}
 use mathlib.Core.Logic.{_⊎_, ⊎-elim}
 use Prim.Native.Nat.{ℕ, zero, suc, _+_, _-_, _≤_, _<_}
@@ -149,6 +149,24 @@ module _ (free : ℕ → Bool) (k high : ℕ) where
     where
       go : Found free k low high Nowhere → NoRun free k low high
       go (found-none m) = m
+
+module _ (free : ℕ → Bool) (k high : ℕ) where
+  -- where no run starts below an address, a search may start there
+  pub lowest-from : (low from : ℕ) → low ≤ from → ((s : ℕ) → low ≤ s → s < from → Vacant free k s → ⊥)
+      → lowestIn free k from high ≡ lowestIn free k low high
+  lowest-from low from l none = sym (go (from - low) low (omega arith) none)
+    where
+      go : (d low : ℕ) → low + d ≡ from → ((s : ℕ) → low ≤ s → s < from → Vacant free k s → ⊥)
+          → lowestIn free k low high ≡ lowestIn free k from high
+      go zero low e n = let same : low ≡ from = omega arith in rw same
+      go (suc d) low e n =
+          skip-one free k low high (not-true (allFrom free k low) (λ r. n low (omega arith) (omega arith) (vacant free k low r)))
+          ∙ go d (suc low) (omega arith) (λ s l′ m. n s (omega arith) m)
+
+  -- a run of more has one of fewer, and where fewer addresses are free a run was free before
+  pub vacant-before : (free′ : ℕ → Bool) (more a : ℕ) → k ≤ more → ((b : ℕ) → free′ b ≡ true → free b ≡ true) → Vacant free′ more a
+      → Vacant free k a
+  vacant-before free′ more a l h v = record { each = λ b m n. h b (v .each b m (omega arith)) }
 
 -- two tests that agree up to high
 module _ (f g : ℕ → Bool) (high : ℕ) (agree : (b : ℕ) → b ≤ high → f b ≡ g b) where

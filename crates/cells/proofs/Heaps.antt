@@ -1,12 +1,13 @@
 -- Of a heap of undefined words and of one after an update: its words, its length, and that its kinds' numbers still fit.
 use mathlib.Core.Path.{_≡_, refl}
+use mathlib.Core.Bool.{true}
 use mathlib.Core.List.{[], _∷_}
 use Prim.Native.Nat.{ℕ, zero, suc, _≤_, _<_}
 use native.Mathlib.Omega.{arith}
 use lib.ListN.{length, length-set, getD, set, replicate}
 use lib.Seq.{getD-set-same, getD-set-other}
 use Rattle.cells.specs.Code.{Small}
-use Rattle.cells.specs.Heap.{Heap, look, update, SmallWord, small-undefined, small-held, SmallHeap}
+use Rattle.cells.specs.Heap.{Heap, look, update, undefined, SmallWord, small-undefined, small-held, SmallHeap}
 use Rattle.cells.specs.declared.Cell.{Cell}
 use Rattle.cells.specs.declared.HeapWord.{HeapWord}
 use Rattle.cells.specs.declared.HeapWord.the-variants.{Undefined, Holds}
@@ -58,3 +59,17 @@ small-update H a c h s = record { each = go a }
     go zero b = h .each b
     go (suc i) zero = small-undefined
     go (suc i) (suc j) = small-set H i j (Holds c) (small-held s) (h .each (suc j))
+
+undefined-set : (H : Heap) (i j : ℕ) (c : Cell) → undefined (getD (set H i (Holds c)) j Undefined) ≡ true → undefined (getD H j Undefined) ≡ true
+undefined-set [] i j c h = h
+undefined-set (x ∷ H) zero zero c h = let z : _≡_ {A = ℕ} 0 1 = cc in absurd (omega arith)
+undefined-set (x ∷ H) zero (suc j) c h = h
+undefined-set (x ∷ H) (suc i) zero c h = h
+undefined-set (x ∷ H) (suc i) (suc j) c h = undefined-set H i j c h
+
+-- words are never freed: a word that is undefined after an update was undefined before
+pub undefined-update : (H : Heap) (a b : ℕ) (c : Cell) → undefined (look (update H a c) b) ≡ true → undefined (look H b) ≡ true
+unfolding look update
+undefined-update H zero b c h = h
+undefined-update H (suc i) zero c h = h
+undefined-update H (suc i) (suc j) c h = undefined-set H i j c h

@@ -11,7 +11,7 @@ use Rattle.choice.specs.Choice.{choose-case}
 use Rattle.cells.specs.Code.{packed, asWord}
 use Rattle.cells.specs.Heap.{Heap, look, update, undefined, SmallWord, small-held, SmallHeap}
 use Rattle.cells.specs.Free.{lowestIn}
-use Rattle.cells.specs.Lent.{wordAt, stored, cleared, lowestRun, valueIn, codeIn, numbersOf, lent}
+use Rattle.cells.specs.Lent.{wordAt, numberAt, putWord, stored, cleared, lowestRun, valueIn, codeIn, numbersOf, lent}
 use Rattle.cells.specs.declared.Cell.{Cell}
 use Rattle.cells.specs.declared.HeapWord.{HeapWord}
 use Rattle.cells.specs.declared.HeapWord.the-variants.{Undefined, Holds}
@@ -72,6 +72,22 @@ word-lent H ws (suc i) s l =
 pub length-lent : (H : Heap) (ws : List ℕ) → 2 * length H ≤ length ws → length (lent H ws) ≡ length ws
 length-lent H ws l = simp (length-append, length-numbers, length-drop) (omega arith)
 
+-- so are its two numbers
+pub value-lent : (H : Heap) (ws : List ℕ) (a : ℕ) → a ≤ length H → 2 * length H ≤ length ws → numberAt (lent H ws) a 0 ≡ valueIn (look H a)
+unfolding numberAt look
+value-lent H ws zero l r = refl
+value-lent H ws (suc i) l r =
+    let long : length (lent H ws) ≡ length ws = length-lent H ws r in
+    let e : 2 * i + 0 ≡ 2 * i = omega arith in
+    rw (lt-ltb i (length (lent H ws) / 2) (omega arith), e) (value-at H (drop (2 * length H) ws) i l)
+
+pub code-lent : (H : Heap) (ws : List ℕ) (a : ℕ) → a ≤ length H → 2 * length H ≤ length ws → numberAt (lent H ws) a 1 ≡ codeIn (look H a)
+unfolding numberAt look
+code-lent H ws zero l r = refl
+code-lent H ws (suc i) l r =
+    let long : length (lent H ws) ≡ length ws = length-lent H ws r in
+    rw (lt-ltb i (length (lent H ws) / 2) (omega arith)) (code-at H (drop (2 * length H) ws) i l)
+
 -- a heap of the same length takes the place of the one before
 pub lent-again : (H H′ : Heap) (ws : List ℕ) → length H ≡ length H′ → lent H (lent H′ ws) ≡ lent H ws
 lent-again H H′ ws e = rw (e, drop-at (numbersOf H′) (drop (2 * length H′) ws) (2 * length H′) (length-numbers H′))
@@ -79,24 +95,28 @@ lent-again H H′ ws e = rw (e, drop-at (numbersOf H′) (drop (2 * length H′)
 -- a store is an update of the heap
 pub stored-lent : (H : Heap) (ws : List ℕ) (a : ℕ) (c : Cell) → a ≤ length H → 2 * length H ≤ length ws
     → stored (lent H ws) a c ≡ lent (update H a c) ws
-unfolding stored update
+unfolding stored putWord update
 stored-lent H ws zero c l r = refl
 stored-lent H ws (suc i) c l r =
     let long : length (lent H ws) ≡ length ws = length-lent H ws r in
     rw (lt-ltb i (length (lent H ws) / 2) (omega arith), length-set) (set-numbers H (drop (2 * length H) ws) i c l)
 
 -- a store keeps the length
-pub length-stored : (ws : List ℕ) (a : ℕ) (c : Cell) → length (stored ws a c) ≡ length ws
-unfolding stored
-length-stored ws zero c = refl
-length-stored ws (suc i) c =
+pub length-put : (ws : List ℕ) (a value code : ℕ) → length (putWord ws a value code) ≡ length ws
+unfolding putWord
+length-put ws zero value code = refl
+length-put ws (suc i) value code =
     choose-case
     (λ (t : List ℕ). length t ≡ length ws)
     (ltb i (length ws / 2))
-    (λ _. set (set ws (2 * i) (c .value)) (2 * i + 1) (packed (c .kind)))
+    (λ _. set (set ws (2 * i) value) (2 * i + 1) code)
     (λ _. ws)
     (simp length-set)
     refl
+
+pub length-stored : (ws : List ℕ) (a : ℕ) (c : Cell) → length (stored ws a c) ≡ length ws
+unfolding stored
+length-stored ws a c = length-put ws a (c .value) (packed (c .kind))
 
 -- to clear the first words is to lend a heap of undefined words
 pub cleared-lent : (ws : List ℕ) (n : ℕ) → 2 * n ≤ length ws → cleared ws n ≡ lent (replicate n Undefined) ws

@@ -1,50 +1,62 @@
--- The word at an address and the numbers after one is stored, opened as the code comes by them: at address 0, past the last whole
--- word, and at a word's place.
+-- The numbers of the word at an address and those after one is put there, opened as the code comes by them: at a word's place, and where
+-- there is no word.
 use mathlib.Core.Path.{_≡_, refl}
+use mathlib.Core.Bool.{Bool, true, false}
 use mathlib.Core.List.{List}
 use Prim.Native.Nat.{ℕ, zero, suc, _+_, _*_, _-_, _/_, _≤_, _<_}
 use native.Mathlib.Omega.{arith}
+use native.Mathlib.Decide.{decLt}
+use lib.Dec.{eqb, ltb}
 use lib.ListN.{length, getD, set, List·getD-eq-default}
 use borrow.Author.Tests.{lt-ltb, le-ltb}
-use Rattle.cells.specs.Code.{packed, asWord}
-use Rattle.cells.specs.Lent.{wordAt, stored}
-use Rattle.cells.specs.declared.Cell.{Cell}
-use Rattle.cells.specs.declared.HeapWord.the-variants.{Undefined}
+use Rattle.choice.specs.Choice.{choose}
+use Rattle.cells.specs.Code.{asWord, unpacked}
+use Rattle.cells.specs.Heap.{undefined}
+use Rattle.cells.specs.Lent.{wordAt, numberAt, putWord}
+use Rattle.cells.specs.declared.HeapWord.the-variants.{Undefined, Holds}
 
-pred-suc : (i : ℕ) → suc i - 1 ≡ i
-pred-suc i = omega arith
+module _ (ws : List ℕ) where
+  -- the word at address i + 1 has its numbers at 2i and 2i + 1
+  pub number-here : (a i j : ℕ) → a ≡ suc i → i < length ws / 2 → numberAt ws a j ≡ getD ws (2 * i + j) 0
+  unfolding numberAt
+  number-here a i j e l = rw (e, lt-ltb i (length ws / 2) l)
 
--- no word stands at address 0
-pub word-none : (ws : List ℕ) (a : ℕ) → a ≡ 0 → wordAt ws a ≡ Undefined
-unfolding wordAt
-word-none ws a z = rw z
+  -- no word stands at address 0, nor past the last whole one
+  pub number-none : (a j : ℕ) → (0 < a → length ws / 2 < a) → numberAt ws a j ≡ 0
+  unfolding numberAt
+  number-none zero j h = refl
+  number-none (suc i) j h = let l : length ws / 2 < suc i = h (omega arith) in rw (le-ltb i (length ws / 2) (omega arith))
 
--- no word stands past the last whole one
-pub word-past : (ws : List ℕ) (a : ℕ) → (a ≡ 0 → ⊥) → length ws / 2 ≤ a - 1 → wordAt ws a ≡ Undefined
-unfolding wordAt
-word-past ws zero n h = absurd (n refl)
-word-past ws (suc i) n h = rw (List·getD-eq-default ws 0 {n = 2 * i + 1} (omega arith))
+  pub put-here : (a i value code : ℕ) → a ≡ suc i → i < length ws / 2
+      → putWord ws a value code ≡ set (set ws (2 * i) value) (2 * i + 1) code
+  unfolding putWord
+  put-here a i value code e l = rw (e, lt-ltb i (length ws / 2) l)
 
--- a word is the two numbers at its place
-pub word-here : (ws : List ℕ) (a : ℕ) → (a ≡ 0 → ⊥) → wordAt ws a ≡ asWord (getD ws (2 * (a - 1)) 0) (getD ws (2 * (a - 1) + 1) 0)
-unfolding wordAt
-word-here ws zero n = absurd (n refl)
-word-here ws (suc i) n = rw pred-suc
+  pub put-none : (a value code : ℕ) → (0 < a → length ws / 2 < a) → putWord ws a value code ≡ ws
+  unfolding putWord
+  put-none zero value code h = refl
+  put-none (suc i) value code h = let l : length ws / 2 < suc i = h (omega arith) in rw (le-ltb i (length ws / 2) (omega arith))
 
--- a store at address 0 changes nothing
-pub stored-none : (ws : List ℕ) (a : ℕ) (c : Cell) → a ≡ 0 → stored ws a c ≡ ws
-unfolding stored
-stored-none ws a c z = rw z
+  -- a word is its two numbers
+  pub word-numbers : (a : ℕ) → wordAt ws a ≡ asWord (numberAt ws a 0) (numberAt ws a 1)
+  unfolding wordAt numberAt
+  word-numbers zero = refl
+  word-numbers (suc i) = go (decLt i (length ws / 2))
+    where
+      go : Dec (i < length ws / 2)
+          → asWord (getD ws (2 * i) 0) (getD ws (2 * i + 1) 0)
+          ≡ asWord (choose (ltb i (length ws / 2)) (λ _. getD ws (2 * i + 0) 0) (λ _. 0))
+          (choose (ltb i (length ws / 2)) (λ _. getD ws (2 * i + 1) 0) (λ _. 0))
+      go (yes l) = let e : 2 * i + 0 ≡ 2 * i = omega arith in rw (lt-ltb i (length ws / 2) l, e)
+      go (no n) = rw (le-ltb i (length ws / 2) (omega arith), List·getD-eq-default ws 0 {n = 2 * i + 1} (omega arith))
 
--- a store past the last whole word changes nothing
-pub stored-past : (ws : List ℕ) (a : ℕ) (c : Cell) → (a ≡ 0 → ⊥) → length ws / 2 ≤ a - 1 → stored ws a c ≡ ws
-unfolding stored
-stored-past ws zero c n h = absurd (n refl)
-stored-past ws (suc i) c n h = rw (le-ltb i (length ws / 2) (omega arith))
+-- two numbers are an undefined word exactly if the code is 0
+undefined-code : (value code : ℕ) → undefined (asWord value code) ≡ eqb code 0
+undefined-code value code = go (eqb code 0)
+  where
+    go : (t : Bool) → undefined (choose t (λ _. Undefined) (λ _. Holds (record { value = value; kind = unpacked code }))) ≡ t
+    go true = refl
+    go false = refl
 
--- a store at a word sets the two numbers at its place
-pub stored-here : (ws : List ℕ) (a : ℕ) (c : Cell) → (a ≡ 0 → ⊥) → a - 1 < length ws / 2
-    → stored ws a c ≡ set (set ws (2 * (a - 1)) (c .value)) (2 * (a - 1) + 1) (packed (c .kind))
-unfolding stored
-stored-here ws zero c n h = absurd (n refl)
-stored-here ws (suc i) c n h = rw (pred-suc, lt-ltb i (length ws / 2) (omega arith))
+pub undefined-number : (ws : List ℕ) (a : ℕ) → undefined (wordAt ws a) ≡ eqb (numberAt ws a 1) 0
+undefined-number ws a = rw (word-numbers ws a) (undefined-code (numberAt ws a 0) (numberAt ws a 1))

@@ -25,11 +25,20 @@ unfoldable pub wordAt : List ℕ → ℕ → HeapWord
 wordAt ws zero = Undefined
 wordAt ws (suc i) = asWord (getD ws (2 * i) 0) (getD ws (2 * i + 1) 0)
 
--- the numbers after the word at an address was made to hold the cell; no word, no change
+-- number j of the word at an address, its value or its kind's code: 0 where there is no such word
+unfoldable pub numberAt : List ℕ → (a j : ℕ) → ℕ
+numberAt ws zero j = 0
+numberAt ws (suc i) j = choose (ltb i (wholeWords ws)) (λ _. getD ws (2 * i + j) 0) (λ _. 0)
+
+-- the numbers after the word at an address was made to hold the value of the kind with that code; no word, no change
+unfoldable pub putWord : List ℕ → (a value code : ℕ) → List ℕ
+putWord ws zero value code = ws
+putWord ws (suc i) value code =
+    choose (ltb i (wholeWords ws)) (λ _. set (set ws (2 * i) value) (2 * i + 1) code) (λ _. ws)
+
+-- the numbers after it was made to hold the cell
 unfoldable pub stored : List ℕ → ℕ → Cell → List ℕ
-stored ws zero c = ws
-stored ws (suc i) c =
-    choose (ltb i (wholeWords ws)) (λ _. set (set ws (2 * i) (c .value)) (2 * i + 1) (packed (c .kind))) (λ _. ws)
+stored ws a c = putWord ws a (c .value) (packed (c .kind))
 
 -- the numbers after the first `words` words, or all if there are fewer, were made undefined
 abbrev pub cleared : List ℕ → ℕ → List ℕ

@@ -2,7 +2,7 @@
 ghost use Prim.Native.Nat.{_+_, _<_, min};
 ghost use mathlib.Core.Path.{_≡_};
 ghost use lib.ListN.{getD, set};
-ghost use Rattle.cells.specs.Lent.{heapWords, wordAt, stored, cleared, lowestRun};
+ghost use Rattle.cells.specs.Lent.{heapWords, wordAt, numberAt, stored, putWord, cleared, lowestRun};
 ghost use Rattle.cells.specs.Heap.{undefined};
 use crate::Cell;
 use crate::HeapWord;
@@ -37,14 +37,21 @@ pub fn heap_words(heap: &[u64]) -> usize
 pub fn cell_at(heap: &[u64], address: usize) -> HeapWord
     ensures { λ r. ⌜ r ≡ wordAt (now (heap .entry)) address ⌝ }
 {
-    if address == 0 {
-        return HeapWord::Undefined;
-    }
-    let i = address - 1;
-    if i < heap.len() / 2 {
-        as_word(heap[2 * i], heap[2 * i + 1])
+    let value = number_at(heap, address, 0);
+    as_word(value, number_at(heap, address, 1))
+}
+
+// Number j of the word at an address, its value or its kind's code: 0 where there is no such word.
+pub fn number_at(heap: &[u64], address: usize, j: usize) -> u64
+    requires { ⌜ j < 2 ⌝ }
+    ensures { λ r. ⌜ r ≡ numberAt (now (heap .entry)) address j ⌝ }
+{
+    // Address 0 wraps to the highest number, and no heap is that long.
+    let place = std::num::wrapping_sub_usize(address, 1);
+    if place < heap.len() / 2 {
+        heap[2 * place + j]
     } else {
-        HeapWord::Undefined
+        0
     }
 }
 
@@ -52,17 +59,19 @@ pub fn cell_at(heap: &[u64], address: usize) -> HeapWord
 pub fn store(heap: &mut [u64], address: usize, cell: Cell)
     ensures { λ r. ⌜ now (heap .exit) ≡ stored (now (heap .entry)) address cell ⌝ }
 {
-    if address == 0 {
-        return;
-    }
-    let i = address - 1;
-    if heap.len() / 2 <= i {
-        return;
-    }
     let kind = cell.kind;
-    let code = pack(kind);
-    heap[2 * i] = cell.value;
-    heap[2 * i + 1] = code;
+    put_word(heap, address, cell.value, pack(kind));
+}
+
+// The word at an address holds the value of the kind with that code from now on; where there is no such word nothing changes.
+pub fn put_word(heap: &mut [u64], address: usize, value: u64, code: u64)
+    ensures { λ r. ⌜ now (heap .exit) ≡ putWord (now (heap .entry)) address value code ⌝ }
+{
+    let i = std::num::wrapping_sub_usize(address, 1);
+    if i < heap.len() / 2 {
+        heap[2 * i] = value;
+        heap[2 * i + 1] = code;
+    }
 }
 
 // The first `words` words, or all if there are fewer, become undefined.
@@ -102,10 +111,7 @@ pub fn lowest_run(heap: &[u64], k: usize, low: usize, high: usize) -> Run
 fn is_undefined(heap: &[u64], address: usize) -> bool
     ensures { λ r. ⌜ r ≡ undefined (wordAt (now (heap .entry)) address) ⌝ }
 {
-    match cell_at(heap, address) {
-        HeapWord::Undefined => true,
-        HeapWord::Holds(_) => false,
-    }
+    number_at(heap, address, 1) == 0
 }
 
 fn lesser(a: usize, b: usize) -> usize

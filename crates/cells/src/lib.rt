@@ -43,6 +43,8 @@ pub use lent::cell_at;
 pub use lent::clear;
 pub use lent::heap_words;
 pub use lent::lowest_run;
+pub use lent::number_at;
 pub use lent::put;
+pub use lent::put_word;
 pub use lent::store;
 pub use lent::word;
