@@ -1,5 +1,6 @@
 -- What the machine's functions and its simulation rest on.
 pub mod Memory
+pub mod Slow
 pub mod Context
 pub mod Fill
 pub mod Stack

@@ -1,120 +1,234 @@
--- Of the lent tables: past the end there are zeros and nothing is put; what was put is found again, and all else is as it was.
+-- Of the lent tables: a row that is not whole is not there; what was put is found again, and all else is as it was.
 use mathlib.Core.Path.{_≡_, refl, sym, _∙_}
 use mathlib.Core.List.{List, [], _∷_}
-use Prim.Native.Nat.{ℕ, zero, suc, _+_, _*_, _≤_, _<_}
+use Prim.Native.Nat.{ℕ, zero, suc, _+_, _*_, _/_, _≤_, _<_}
 use native.Mathlib.Omega.{arith}
+use native.Mathlib.Decide.{decLt}
+use lib.Dec.{ltb}
 use lib.ListN.{length, getD, set, length-set, List·getD-eq-default}
-use lib.Seq.{set-out, getD-set-same, getD-set-other}
-use Rattle.cells.specs.Code.{packed, Small}
-use Rattle.cells.specs.declared.Cell.{Cell}
-use Rattle.cells.proofs.Codes.{round-trip}
-use Rattle.machine.specs.declared.Frame.{Frame}
-use Rattle.machine.specs.Tables.{rowAt, frameAt, framed, boundAt, bounded}
+use lib.Seq.{getD-set-same, getD-set-other}
+use borrow.Author.Tests.{lt-ltb, le-ltb}
+use Rattle.choice.specs.Choice.{choose, choose-case}
+use Rattle.cells.specs.Lent.{numberAt, putWord}
+use Rattle.machine.specs.Tables.{rowAt, framed, kept}
 
--- ---- past the end
-pub past : (t : List ℕ) (i : ℕ) → length t ≤ i → 0 ≡ getD t i 0
-past t i l = sym (List·getD-eq-default t 0 {n = i} l)
+-- ---- a row by the one test that finds it
+pub row-here : (t : List ℕ) (i j : ℕ) → i < length t / 4 → rowAt t i j ≡ getD t (4 * i + j) 0
+unfolding rowAt
+row-here t i j l = rw (lt-ltb i (length t / 4) l)
 
-pub framed-past : (t : List ℕ) (i : ℕ) (f : Frame) → length t ≤ i → t ≡ framed t i f
+pub row-none : (t : List ℕ) (i j : ℕ) → length t / 4 ≤ i → rowAt t i j ≡ 0
+unfolding rowAt
+row-none t i j l = rw (le-ltb i (length t / 4) l)
+
+-- a row with a number that is not 0 is there
+pub row-there : (t : List ℕ) (i j : ℕ) → (rowAt t i j ≡ 0 → ⊥) → i < length t / 4
+row-there t i j n = go (decLt i (length t / 4))
+  where
+    go : Dec (i < length t / 4) → i < length t / 4
+    go (yes l) = l
+    go (no m) = absurd (n (row-none t i j (omega arith)))
+
+-- in a table of whole rows it is the number at its place
+pub row-whole : (t : List ℕ) (n i j : ℕ) → length t ≡ 4 * n → j < 4 → rowAt t i j ≡ getD t (4 * i + j) 0
+row-whole t n i j e l = go (decLt i (length t / 4))
+  where
+    go : Dec (i < length t / 4) → rowAt t i j ≡ getD t (4 * i + j) 0
+    go (yes h) = row-here t i j h
+    go (no m) = row-none t i j (omega arith) ∙ sym (List·getD-eq-default t 0 {n = 4 * i + j} (omega arith))
+
+pub framed-here : (t : List ℕ) (i node inside : ℕ) → i < length t / 4
+    → framed t i node inside ≡ set (set (set (set t (4 * i) node) (4 * i + 1) inside) (4 * i + 2) 0) (4 * i + 3) 0
 unfolding framed
-framed-past t i f l =
-    rw (set-out t (4 * i) (f .node) (omega arith), set-out t (4 * i + 1) (f .inside) (omega arith))
-    (rw (set-out t (4 * i + 2) (f .value) (omega arith), set-out t (4 * i + 3) (f .code) (omega arith)))
+framed-here t i node inside l = rw (lt-ltb i (length t / 4) l)
 
-pub bounded-past : (t : List ℕ) (i : ℕ) (c : Cell) → length t ≤ i → t ≡ bounded t i c
-unfolding bounded
-bounded-past t i c l =
-    rw (set-out t (2 * i) (c .value) (omega arith), set-out t (2 * i + 1) (packed (c .kind)) (omega arith))
+pub framed-none : (t : List ℕ) (i node inside : ℕ) → length t / 4 ≤ i → framed t i node inside ≡ t
+unfolding framed
+framed-none t i node inside l = rw (le-ltb i (length t / 4) l)
 
--- a number that is not 0 stands before the end
-pub before-end : (t : List ℕ) (i : ℕ) → (getD t i 0 ≡ 0 → ⊥) → i < length t
-before-end [] i n = absurd (n refl)
-before-end (x ∷ t) zero n = omega arith
-before-end (x ∷ t) (suc i) n = let h : i < length t = before-end t i n in omega arith
+pub kept-here : (t : List ℕ) (i value code : ℕ) → i < length t / 4
+    → kept t i value code ≡ set (set t (4 * i + 2) value) (4 * i + 3) code
+unfolding kept
+kept-here t i value code l = rw (lt-ltb i (length t / 4) l)
+
+pub kept-none : (t : List ℕ) (i value code : ℕ) → length t / 4 ≤ i → kept t i value code ≡ t
+unfolding kept
+kept-none t i value code l = rw (le-ltb i (length t / 4) l)
+
+-- before the end it does not matter what stands past it
+pub getD-within : (t : List ℕ) (n a b : ℕ) → n < length t → getD t n a ≡ getD t n b
+getD-within [] n a b l = absurd (omega arith)
+getD-within (x ∷ t) zero a b l = refl
+getD-within (x ∷ t) (suc n) a b l = getD-within t n a b (omega arith)
 
 -- ---- what was put
+pub length-framed : (t : List ℕ) (i node inside : ℕ) → length (framed t i node inside) ≡ length t
+unfolding framed
+length-framed t i node inside =
+    choose-case
+    (λ (t′ : List ℕ). length t′ ≡ length t)
+    (ltb i (length t / 4))
+    (λ _. set (set (set (set t (4 * i) node) (4 * i + 1) inside) (4 * i + 2) 0) (4 * i + 3) 0)
+    (λ _. t)
+    (simp length-set)
+    refl
+
+pub length-kept : (t : List ℕ) (i value code : ℕ) → length (kept t i value code) ≡ length t
+unfolding kept
+length-kept t i value code =
+    choose-case
+    (λ (t′ : List ℕ). length t′ ≡ length t)
+    (ltb i (length t / 4))
+    (λ _. set (set t (4 * i + 2) value) (4 * i + 3) code)
+    (λ _. t)
+    (simp length-set)
+    refl
+
+-- the four numbers of a row
+pub record Four (t : List ℕ) (i a b c d : ℕ) : Type 0 where
+  pub first-is : rowAt t i 0 ≡ a
+  pub second-is : rowAt t i 1 ≡ b
+  pub third-is : rowAt t i 2 ≡ c
+  pub fourth-is : rowAt t i 3 ≡ d
+
+-- rows below h are as they were
+pub record Below (h : ℕ) (t t′ : List ℕ) : Type 0 where
+  pub row-same : (i j : ℕ) → i < h → j < 4 → rowAt t′ i j ≡ rowAt t i j
+
+pub four-below : {h i a b c d : ℕ} {t t′ : List ℕ} → Below h t t′ → i < h → Four t i a b c d → Four t′ i a b c d
+four-below {i = i} s l f =
+    record {
+      first-is = s .row-same i 0 l (omega arith) ∙ f .first-is;
+      second-is = s .row-same i 1 l (omega arith) ∙ f .second-is;
+      third-is = s .row-same i 2 l (omega arith) ∙ f .third-is;
+      fourth-is = s .row-same i 3 l (omega arith) ∙ f .fourth-is;
+    }
+
+below : (t t′ : List ℕ) (h : ℕ) → length t′ ≡ length t → ((k : ℕ) → k < 4 * h → getD t′ k 0 ≡ getD t k 0) → Below h t t′
+unfolding rowAt
+below t t′ h e same = record { row-same = λ i j l m. rw (e, same (4 * i + j) (omega arith)) }
+
 -- the numbers of a frame are put one behind the other
-abbrev put₁ : List ℕ → ℕ → Frame → List ℕ
-put₁ t i f = set t (4 * i) (f .node)
+abbrev put₁ : List ℕ → (i node : ℕ) → List ℕ
+put₁ t i node = set t (4 * i) node
 
-abbrev put₂ : List ℕ → ℕ → Frame → List ℕ
-put₂ t i f = set (put₁ t i f) (4 * i + 1) (f .inside)
+abbrev put₂ : List ℕ → (i node inside : ℕ) → List ℕ
+put₂ t i node inside = set (put₁ t i node) (4 * i + 1) inside
 
-abbrev put₃ : List ℕ → ℕ → Frame → List ℕ
-put₃ t i f = set (put₂ t i f) (4 * i + 2) (f .value)
+abbrev put₃ : List ℕ → (i node inside : ℕ) → List ℕ
+put₃ t i node inside = set (put₂ t i node inside) (4 * i + 2) 0
 
-module _ (t : List ℕ) (i : ℕ) (f : Frame) where
-  -- what stands before a number is as it was
-  under-inside : (k : ℕ) → k < 4 * i + 1 → getD (framed t i f) k 0 ≡ getD (put₁ t i f) k 0
-  unfolding framed
-  under-inside k l =
-      getD-set-other (put₃ t i f) (4 * i + 3) k (f .code) 0 (omega arith)
-      ∙ getD-set-other (put₂ t i f) (4 * i + 2) k (f .value) 0 (omega arith)
-      ∙ getD-set-other (put₁ t i f) (4 * i + 1) k (f .inside) 0 (omega arith)
+module _ (t : List ℕ) (i node inside : ℕ) where
+  pub framed-below : Below i t (framed t i node inside)
+  framed-below = below t (framed t i node inside) i (length-framed t i node inside) (λ k l. go k l (decLt i (length t / 4)))
+    where
+      go : (k : ℕ) → k < 4 * i → Dec (i < length t / 4) → getD (framed t i node inside) k 0 ≡ getD t k 0
+      go k l (yes h) =
+          rw (framed-here t i node inside h)
+          (getD-set-other (put₃ t i node inside) (4 * i + 3) k 0 0 (omega arith)
+          ∙ getD-set-other (put₂ t i node inside) (4 * i + 2) k 0 0 (omega arith)
+          ∙ getD-set-other (put₁ t i node) (4 * i + 1) k inside 0 (omega arith)
+          ∙ getD-set-other t (4 * i) k node 0 (omega arith))
+      go k l (no n) = rw (framed-none t i node inside (omega arith))
 
-  before-frame : (k : ℕ) → k < 4 * i → getD (framed t i f) k 0 ≡ getD t k 0
-  before-frame k l = under-inside k (omega arith) ∙ getD-set-other t (4 * i) k (f .node) 0 (omega arith)
+  row-put : (j : ℕ) → i < length t / 4 → rowAt (framed t i node inside) i j ≡ getD (set (put₃ t i node inside) (4 * i + 3) 0) (4 * i + j) 0
+  row-put j h =
+      let long = length-framed t i node inside in
+      row-here (framed t i node inside) i j (omega arith) ∙ rw (framed-here t i node inside h)
 
-  pub frame-other : (j : ℕ) → j < i → frameAt (framed t i f) j ≡ frameAt t j
-  unfolding frameAt
-  frame-other j l =
-      rw (before-frame (4 * j + 0) (omega arith), before-frame (4 * j + 1) (omega arith))
-      (rw (before-frame (4 * j + 2) (omega arith), before-frame (4 * j + 3) (omega arith)))
+  pub four-framed : i < length t / 4 → Four (framed t i node inside) i node inside 0 0
+  four-framed h =
+      let e : 4 * i + 0 ≡ 4 * i = omega arith in
+      record {
+        first-is = row-put 0 h
+            ∙ rw e
+            (getD-set-other (put₃ t i node inside) (4 * i + 3) (4 * i) 0 0 (omega arith)
+            ∙ getD-set-other (put₂ t i node inside) (4 * i + 2) (4 * i) 0 0 (omega arith)
+            ∙ getD-set-other (put₁ t i node) (4 * i + 1) (4 * i) inside 0 (omega arith)
+            ∙ getD-set-same t (4 * i) node 0 (omega arith));
+        second-is = row-put 1 h
+            ∙ getD-set-other (put₃ t i node inside) (4 * i + 3) (4 * i + 1) 0 0 (omega arith)
+            ∙ getD-set-other (put₂ t i node inside) (4 * i + 2) (4 * i + 1) 0 0 (omega arith)
+            ∙ getD-set-same (put₁ t i node) (4 * i + 1) inside 0 (simp length-set (omega arith));
+        third-is = row-put 2 h
+            ∙ getD-set-other (put₃ t i node inside) (4 * i + 3) (4 * i + 2) 0 0 (omega arith)
+            ∙ getD-set-same (put₂ t i node inside) (4 * i + 2) 0 0 (simp length-set (omega arith));
+        fourth-is = row-put 3 h ∙ getD-set-same (put₃ t i node inside) (4 * i + 3) 0 0 (simp length-set (omega arith));
+      }
 
-  module _ (room : 4 * i + 3 < length t) where
-    node-same : rowAt (framed t i f) i 0 ≡ f .node
-    node-same =
-        let e : 4 * i + 0 ≡ 4 * i = omega arith in
-        rw e (under-inside (4 * i) (omega arith) ∙ getD-set-same t (4 * i) (f .node) 0 (omega arith))
+module _ (t : List ℕ) (i value code : ℕ) where
+  before-kept : (k : ℕ) → k < 4 * i + 2 → getD (kept t i value code) k 0 ≡ getD t k 0
+  before-kept k l = go (decLt i (length t / 4))
+    where
+      go : Dec (i < length t / 4) → getD (kept t i value code) k 0 ≡ getD t k 0
+      go (yes h) =
+          rw (kept-here t i value code h)
+          (getD-set-other (set t (4 * i + 2) value) (4 * i + 3) k code 0 (omega arith)
+          ∙ getD-set-other t (4 * i + 2) k value 0 (omega arith))
+      go (no n) = rw (kept-none t i value code (omega arith))
 
-    inside-same : rowAt (framed t i f) i 1 ≡ f .inside
-    unfolding framed
-    inside-same =
-        getD-set-other (put₃ t i f) (4 * i + 3) (4 * i + 1) (f .code) 0 (omega arith)
-        ∙ getD-set-other (put₂ t i f) (4 * i + 2) (4 * i + 1) (f .value) 0 (omega arith)
-        ∙ getD-set-same (put₁ t i f) (4 * i + 1) (f .inside) 0 (simp length-set (omega arith))
+  pub kept-below : Below i t (kept t i value code)
+  kept-below = below t (kept t i value code) i (length-kept t i value code) (λ k l. before-kept k (omega arith))
 
-    value-same : rowAt (framed t i f) i 2 ≡ f .value
-    unfolding framed
-    value-same =
-        getD-set-other (put₃ t i f) (4 * i + 3) (4 * i + 2) (f .code) 0 (omega arith)
-        ∙ getD-set-same (put₂ t i f) (4 * i + 2) (f .value) 0 (simp length-set (omega arith))
+  -- the node and its mode stay, and the value is found again
+  row-before : (j : ℕ) → j < 2 → rowAt (kept t i value code) i j ≡ rowAt t i j
+  unfolding rowAt
+  row-before j l = rw (length-kept t i value code, before-kept (4 * i + j) (omega arith))
 
-    code-same : rowAt (framed t i f) i 3 ≡ f .code
-    unfolding framed
-    code-same = getD-set-same (put₃ t i f) (4 * i + 3) (f .code) 0 (simp length-set (omega arith))
+  row-after : (j : ℕ) → i < length t / 4
+      → rowAt (kept t i value code) i j ≡ getD (set (set t (4 * i + 2) value) (4 * i + 3) code) (4 * i + j) 0
+  row-after j h =
+      let long = length-kept t i value code in
+      row-here (kept t i value code) i j (omega arith) ∙ rw (kept-here t i value code h)
 
-    pub frame-same : frameAt (framed t i f) i ≡ f
-    unfolding frameAt
-    frame-same = rw (node-same, inside-same, value-same, code-same)
+  pub four-kept : {node inside a b : ℕ} → i < length t / 4 → Four t i node inside a b → Four (kept t i value code) i node inside value code
+  four-kept h f =
+      record {
+        first-is = row-before 0 (omega arith) ∙ f .first-is;
+        second-is = row-before 1 (omega arith) ∙ f .second-is;
+        third-is = row-after 2 h
+            ∙ getD-set-other (set t (4 * i + 2) value) (4 * i + 3) (4 * i + 2) code 0 (omega arith)
+            ∙ getD-set-same t (4 * i + 2) value 0 (omega arith);
+        fourth-is = row-after 3 h ∙ getD-set-same (set t (4 * i + 2) value) (4 * i + 3) code 0 (simp length-set (omega arith));
+      }
 
-  pub length-framed : length (framed t i f) ≡ length t
-  unfolding framed
-  length-framed = simp length-set
+-- ---- bound values, in words
+pub record Word (t : List ℕ) (a value code : ℕ) : Type 0 where
+  pub value-is : numberAt t a 0 ≡ value
+  pub code-is : numberAt t a 1 ≡ code
 
-module _ (t : List ℕ) (i : ℕ) (c : Cell) where
-  before-bound : (k : ℕ) → k < 2 * i → getD (bounded t i c) k 0 ≡ getD t k 0
-  unfolding bounded
-  before-bound k l =
-      getD-set-other (set t (2 * i) (c .value)) (2 * i + 1) k (packed (c .kind)) 0 (omega arith)
-      ∙ getD-set-other t (2 * i) k (c .value) 0 (omega arith)
+module _ (t : List ℕ) (i value code : ℕ) where
+  put-whole : i < length t / 2 → putWord t (suc i) value code ≡ set (set t (2 * i) value) (2 * i + 1) code
+  unfolding putWord
+  put-whole h = rw (lt-ltb i (length t / 2) h)
 
-  pub bound-other : (j : ℕ) → j < i → boundAt (bounded t i c) j ≡ boundAt t j
-  unfolding boundAt
-  bound-other j l = rw (before-bound (2 * j + 0) (omega arith), before-bound (2 * j + 1) (omega arith))
+  number-put : (j k : ℕ) → i < length t / 2 → j < length t / 2
+      → numberAt (putWord t (suc i) value code) (suc j) k ≡ getD (set (set t (2 * i) value) (2 * i + 1) code) (2 * j + k) 0
+  unfolding numberAt
+  number-put j k h l = rw (put-whole h, length-set, length-set, lt-ltb j (length t / 2) l)
 
-  pub bound-same : 2 * i + 1 < length t → Small (c .kind) → boundAt (bounded t i c) i ≡ c
-  unfolding boundAt bounded
-  bound-same room s =
+  pub word-same : i < length t / 2 → Word (putWord t (suc i) value code) (suc i) value code
+  word-same h =
       let e : 2 * i + 0 ≡ 2 * i = omega arith in
-      rw (
-        e,
-        getD-set-other (set t (2 * i) (c .value)) (2 * i + 1) (2 * i) (packed (c .kind)) 0 (omega arith),
-        getD-set-same t (2 * i) (c .value) 0 (omega arith),
-        getD-set-same (set t (2 * i) (c .value)) (2 * i + 1) (packed (c .kind)) 0 (simp length-set room),
-        round-trip s,
-      )
+      record {
+        value-is = number-put i 0 h h
+            ∙ rw e
+            (getD-set-other (set t (2 * i) value) (2 * i + 1) (2 * i) code 0 (omega arith)
+            ∙ getD-set-same t (2 * i) value 0 (omega arith));
+        code-is = number-put i 1 h h ∙ getD-set-same (set t (2 * i) value) (2 * i + 1) code 0 (simp length-set (omega arith));
+      }
 
-  pub length-bounded : length (bounded t i c) ≡ length t
-  unfolding bounded
-  length-bounded = simp length-set
+  number-other : (j k : ℕ) → j < i → k < 2 → i < length t / 2 → numberAt (putWord t (suc i) value code) (suc j) k ≡ numberAt t (suc j) k
+  unfolding numberAt
+  number-other j k l m h =
+      number-put j k h (omega arith)
+      ∙ getD-set-other (set t (2 * i) value) (2 * i + 1) (2 * j + k) code 0 (omega arith)
+      ∙ getD-set-other t (2 * i) (2 * j + k) value 0 (omega arith)
+      ∙ rw (lt-ltb j (length t / 2) (omega arith))
+
+  pub word-other : {v c : ℕ} (j : ℕ) → j < i → i < length t / 2 → Word t (suc j) v c → Word (putWord t (suc i) value code) (suc j) v c
+  word-other j l h w =
+      record {
+        value-is = number-other j 0 l (omega arith) h ∙ w .value-is;
+        code-is = number-other j 1 l (omega arith) h ∙ w .code-is;
+      }

@@ -1,6 +1,5 @@
 -- The machine runs the definition: what it answers and the heap that it leaves are those of the run by replacement.
 use mathlib.Core.Path.{_≡_, refl, _∙_, ap}
-use mathlib.Core.Bool.{Bool, true, false}
 use mathlib.Core.List.{List, []}
 use Prim.Native.Nat.{ℕ, zero, suc, _+_, _*_, _-_, _≤_, _<_}
 use native.Mathlib.Omega.{arith}
@@ -15,29 +14,24 @@ use Rattle.cells.specs.declared.Mode.{Mode}
 use Rattle.cells.specs.declared.Mode.the-variants.{Checked, Unchecked}
 use Rattle.cells.specs.declared.Kind.{Kind}
 use Rattle.calculus.specs.Setting.{Setting, cell}
-use Rattle.calculus.specs.Expr.{Expr, lit}
+use Rattle.calculus.specs.Expr.{Expr, lit, nodes}
 use Rattle.calculus.specs.Steps.{stuck, halt, next, Halt, step}
 use Rattle.calculus.specs.Run.{Result, result, haltEnd, firstAt, firstAfter, tick, run}
 use Rattle.calculus.specs.declared.End.the-variants.{Value, Stuck}
 use Rattle.calculus.specs.declared.Outcome.{Outcome}
 use Rattle.image.specs.Content.{Tables, settingOf}
-use Rattle.machine.specs.declared.Focus.the-variants.{Node}
-use Rattle.machine.specs.declared.State.{State}
-use Rattle.machine.specs.declared.Redex.the-variants.{Halts}
-use Rattle.machine.specs.declared.Act.{Act}
-use Rattle.machine.specs.declared.Act.the-variants.{Contracts}
-use Rattle.machine.specs.declared.Tally.{Tally}
-use Rattle.machine.specs.declared.Turn.{Turn}
-use Rattle.machine.specs.Look.{state, turn}
-use Rattle.machine.specs.Drive.{tally, tallied, actStops, actOutcome, moreOf, firstIn, stepped, outcome, Ran, ran, turned, drive, driven, heapAfter, framesAfter, boundAfter}
-use Rattle.machine.specs.Ready.{Ready}
 use Rattle.image.specs.Shape.{height}
+use Rattle.machine.specs.declared.Room.{Room}
+use Rattle.machine.specs.declared.Turn.the-variants as turn
+use Rattle.machine.specs.States.{Moved, moved, state, room, outcome, firstOf}
+use Rattle.machine.specs.States as states
+use Rattle.machine.specs.Drive.{Ran, ran, after, drive, driven}
+use Rattle.machine.specs.Ready.{Ready}
 use Rattle.machine.specs.Entry.{AsDefined, Stepped}
-use Rattle.machine.proofs.Memory.{length-framed, length-bounded}
 use Rattle.machine.proofs.Fill.{fill, fill-none}
 use Rattle.machine.proofs.Stack.{ticks, few-ticks, Waits, bottom, no-lets}
-use Rattle.machine.proofs.Redexes.{given-value, given-written, given-taken, Loaded}
-use Rattle.machine.proofs.Turns.{Sim, at-node, q-passes, q-keeps, Counted, c-binds, c-contracts, Goes, is-done, is-quiet, is-stuck, is-halt, is-step, goes}
+use Rattle.machine.proofs.Redexes.{Loaded, Hint}
+use Rattle.machine.proofs.Turns.{Sim, at-node, Goes, is-done, is-quiet, is-stuck, is-halt, is-step, goes}
 
 -- the number of the first unchecked step, where s steps with first unchecked step f came before those counted by q
 laterFirst : (s f q : ℕ) → ℕ
@@ -45,22 +39,22 @@ laterFirst s (suc f) q = suc f
 laterFirst s zero zero = 0
 laterFirst s zero (suc q) = s + suc q
 
--- the outcome of a whole run, from the steps tallied and the outcome of the rest
-abbrev later : Tally → Outcome → Outcome
-later t o = outcome (o .end) (t .steps + o .steps) (laterFirst (t .steps) (t .first) (o .first))
+-- the outcome of a whole run, from the steps counted and the outcome of the rest
+abbrev later : (steps first : ℕ) → Outcome → Outcome
+later steps first o = outcome (o .end) (steps + o .steps) (laterFirst steps first (o .first))
 
 first-none : (s f : ℕ) → f ≡ laterFirst s f 0
 unfolding laterFirst
 first-none s zero = refl
 first-none s (suc f) = refl
 
-first-now : (s f : ℕ) (m : Mode) → firstIn (tally s f) (modeNumber m) ≡ laterFirst s f (firstAt m)
+first-now : (s f : ℕ) (m : Mode) → firstOf s f (modeNumber m) ≡ laterFirst s f (firstAt m)
 unfolding laterFirst
 first-now s zero Checked = refl
 first-now s zero Unchecked = refl
 first-now s (suc f) m = rw (ne-eqb (suc f) 0 (omega arith))
 
-first-later : (s f : ℕ) (m : Mode) (q : ℕ) → laterFirst (s + 1) (firstIn (tally s f) (modeNumber m)) q ≡ laterFirst s f (firstAfter m q)
+first-later : (s f : ℕ) (m : Mode) (q : ℕ) → laterFirst (s + 1) (firstOf s f (modeNumber m)) q ≡ laterFirst s f (firstAfter m q)
 unfolding laterFirst
 first-later s zero Checked zero = refl
 first-later s zero Checked (suc q) = omega arith
@@ -79,133 +73,119 @@ module _ (S : Setting) (H : Heap) where
   run-stuck zero e m q = rw q
   run-stuck (suc l) e m q = rw q
 
--- what the machine answers is the rest of a run with this tally
-record Agrees (words : ℕ) (ws : List ℕ) (x : Ran) (t : Tally) (r : Result) : Type 0 where
-  outcome-same : x .outcome ≡ later t (r .outcome)
+-- what the machine answers is the rest of a run after so many steps
+record Agrees (words : ℕ) (ws : List ℕ) (x : Ran) (steps first : ℕ) (r : Result) : Type 0 where
+  outcome-same : x .outcome ≡ later steps first (r .outcome)
   heap-same : x .heap ≡ lent (r .heap) ws
   heap-long : length (r .heap) ≡ words
 
 -- the lent memory of a machine over the heap H
-record Memory (words R : ℕ) (H : Heap) (frames bound : List ℕ) : Type 0 where
+record Memory (words R : ℕ) (H : Heap) (rm : Room) (frames bound : List ℕ) : Type 0 where
   heap-small : SmallHeap H
   heap-long : length H ≡ words
+  hint : Hint H rm
   frames-room : 4 * R ≤ length frames
   bound-room : 2 * R ≤ length bound
 
--- ---- a transition that is a step
-counted-stops : {act : Act} → Counted act → (spent : Bool) → actStops act spent ≡ spent
-counted-stops c-binds spent = refl
-counted-stops (c-contracts given-value) spent = refl
-counted-stops (c-contracts given-written) spent = refl
-counted-stops (c-contracts given-taken) spent = refl
-
-counted-outcome : {act : Act} → Counted act → (inside : ℕ) (y : Tally) (spent : Bool) → actOutcome act inside y spent ≡ moreOf y
-counted-outcome c-binds inside y spent = refl
-counted-outcome (c-contracts given-value) inside y spent = refl
-counted-outcome (c-contracts given-written) inside y spent = refl
-counted-outcome (c-contracts given-taken) inside y spent = refl
-
-counted-tally : {act : Act} → Counted act → (inside : ℕ) (y : Tally) → tallied act inside y ≡ stepped y inside
-counted-tally c-binds inside y = refl
-counted-tally (c-contracts g) inside y = refl
-
-counted-memory : {act : Act} {words R : ℕ} {H H′ : Heap} {frames bound : List ℕ} → Counted act → Memory words R H frames bound
-    → SmallHeap H′ → length H′ ≡ length H → Memory words R H′ (framesAfter act frames) (boundAfter act bound)
-counted-memory c-binds M s l =
-    record {
-      heap-small = s;
-      heap-long = l ∙ M .heap-long;
-      frames-room = rw length-framed (M .frames-room);
-      bound-room = rw length-bounded (M .bound-room);
-    }
-counted-memory (c-contracts g) M s l =
-    record { heap-small = s; heap-long = l ∙ M .heap-long; frames-room = M .frames-room; bound-room = M .bound-room }
-
 -- n transitions are enough for what is left
 record Runs (t : Tables) (words : ℕ) (ws structs types table : List ℕ) (R limit n : ℕ) : Type 0 where
-  from : {s : State} {e : Expr} {left : ℕ} {frames bound : List ℕ} (H : Heap) (y : Tally) → Memory words R H frames bound
-      → Sim table R s frames bound e left → left < n
-      → Agrees words ws (drive table structs types words limit n s y (lent H ws) frames bound) y (run (settingOf words t) (limit - y .steps) H e)
+  from : {at code h lets x left : ℕ} {e : Expr} {frames bound : List ℕ} (H : Heap) (steps first : ℕ) (rm : Room) → Memory words R H rm frames bound
+      → Sim table R at code h lets x frames bound e left → left < n
+      → Agrees words ws (drive table structs types words limit n (state at code h lets x steps first rm) (lent H ws) frames bound) steps first
+      (run (settingOf words t) (limit - steps) H e)
 
 -- a step of the machine is a step before the rest
-step-first : {words : ℕ} {ws : List ℕ} (x : Ran) (y : Tally) (m : Mode) (r : Result) → Agrees words ws x (stepped y (modeNumber m)) r → Agrees words ws x y (tick m r)
-step-first x y m r a =
-    let e : y .steps + 1 + r .outcome .steps ≡ y .steps + suc (r .outcome .steps) = omega arith in
+step-first : {words : ℕ} {ws : List ℕ} (x : Ran) (s f : ℕ) (m : Mode) (r : Result) → Agrees words ws x (s + 1) (firstOf s f (modeNumber m)) r
+    → Agrees words ws x s f (tick m r)
+step-first x s f m r a =
+    let e : s + 1 + r .outcome .steps ≡ s + suc (r .outcome .steps) = omega arith in
     record {
-      outcome-same = a .outcome-same ∙ rw (e, first-later (y .steps) (y .first) m (r .outcome .first));
+      outcome-same = a .outcome-same ∙ rw (e, first-later s f m (r .outcome .first));
       heap-same = a .heap-same;
       heap-long = a .heap-long;
     }
 
 module _ {t : Tables} {words : ℕ} {ws structs types : List ℕ} (L : Loaded t words ws structs types) (table : List ℕ) (R limit : ℕ) where
-  module _ (n : ℕ) (ih : Runs t words ws structs types table R limit n) (H : Heap) (y : Tally) (frames bound : List ℕ) (M : Memory words R H frames bound) where
+  module _ (n : ℕ) (ih : Runs t words ws structs types table R limit n) (H : Heap) (steps first : ℕ) (rm : Room) (frames bound : List ℕ) (M : Memory words R H rm frames bound) where
     -- a halt, and a step: at the limit they are not taken
-    halts : {h : Halt} {m : Mode} (e : Expr) (s : State) (l : ℕ) → limit - y .steps ≡ l → s .inside ≡ modeNumber m
-        → step (settingOf words t) Checked H e ≡ halt h m
-        → Agrees words ws (turned table structs types words limit (turn (Contracts (Halts (haltEnd h))) s) y (lent H ws) frames bound (drive table structs types words limit n)) y
+    halts : {h : Halt} {m : Mode} (e : Expr) (l : ℕ) → limit - steps ≡ l → step (settingOf words t) Checked H e ≡ halt h m
+        → Agrees words ws
+        (after (moved (states.halt limit (state 0 0 0 0 (modeNumber m) steps first rm) (haltEnd h)) (lent H ws) frames bound) (drive table structs types words limit n))
+        steps
+        first
         (run (settingOf words t) l H e)
     unfolding run
-    halts e s zero q i z =
-        rw (z, le-leb limit (y .steps) (omega arith))
-        (record { outcome-same = rw (add-zero, ← first-none (y .steps) (y .first)); heap-same = refl; heap-long = M .heap-long })
-    halts {m = m} e s (suc l) q i z =
-        rw (z, lt-leb limit (y .steps) (omega arith))
-        (record { outcome-same = rw (i, first-now (y .steps) (y .first) m); heap-same = refl; heap-long = M .heap-long })
+    halts e zero q z =
+        rw (z, le-leb limit steps (omega arith))
+        (record { outcome-same = rw (add-zero, ← first-none steps first); heap-same = refl; heap-long = M .heap-long })
+    halts {m = m} e (suc l) q z =
+        rw (z, lt-leb limit steps (omega arith))
+        (record { outcome-same = rw (first-now steps first m); heap-same = refl; heap-long = M .heap-long })
 
-    stepping : {e′ : Expr} {m : Mode} {act : Act} {H′ : Heap} {left′ : ℕ} (e : Expr) (s : State) (l : ℕ) → limit - y .steps ≡ l → Counted act
-        → s .inside ≡ modeNumber m → step (settingOf words t) Checked H e ≡ next H′ e′ m → heapAfter structs types act (lent H ws) ≡ lent H′ ws
-        → Memory words R H′ (framesAfter act frames) (boundAfter act bound)
-        → Sim table R s (framesAfter act frames) (boundAfter act bound) e′ left′ → left′ < n
-        → Agrees words ws (turned table structs types words limit (turn act s) y (lent H ws) frames bound (drive table structs types words limit n)) y
-        (run (settingOf words t) l H e)
+    stepping : {at code h lets x left′ : ℕ} {m : Mode} {H′ : Heap} {e′ : Expr} {frames′ bound′ : List ℕ} {rm′ : Room} {r : Moved} (e : Expr) (l : ℕ) → limit - steps ≡ l
+        → (limit ≤ steps → r ≡ moved (states.more (state 0 0 0 0 0 steps first rm)) (lent H ws) frames bound)
+        → (steps < limit
+        → r ≡ moved (turn.Goes (state at code h lets x (steps + 1) (firstOf steps first (modeNumber m)) rm′)) (lent H′ ws) frames′ bound′)
+        → step (settingOf words t) Checked H e ≡ next H′ e′ m → Memory words R H′ rm′ frames′ bound′
+        → Sim table R at code h lets x frames′ bound′ e′ left′ → left′ < n
+        → Agrees words ws (after r (drive table structs types words limit n)) steps first (run (settingOf words t) l H e)
     unfolding run
-    stepping {act = act} e s zero q k i z w M′ sim d =
-        rw (z, le-leb limit (y .steps) (omega arith), counted-stops k true, counted-outcome k (s .inside) y true)
-        (record { outcome-same = rw (add-zero, ← first-none (y .steps) (y .first)); heap-same = refl; heap-long = M .heap-long })
-    stepping {m = m} {H′ = H′} e s (suc l) q k i z w M′ sim d =
-        let left : limit - (y .steps + 1) ≡ l = omega arith in
-        rw (z, lt-leb limit (y .steps) (omega arith), counted-stops k false, counted-tally k (s .inside) y ∙ ap (stepped y) i, w)
-        (step-first _ y m _ (rw left at (ih .from H′ (stepped y (modeNumber m)) M′ sim d)))
+    stepping e zero q q₀ q₁ z M′ sim d =
+        rw (z, q₀ (omega arith))
+        (record { outcome-same = rw (add-zero, ← first-none steps first); heap-same = refl; heap-long = M .heap-long })
+    stepping {m = m} {H′ = H′} {rm′ = rm′} e (suc l) q q₀ q₁ z M′ sim d =
+        let left : limit - (steps + 1) ≡ l = omega arith in
+        rw (z, q₁ (omega arith))
+        (step-first _ steps first m _ (rw left at (ih .from H′ (steps + 1) (firstOf steps first (modeNumber m)) rm′ M′ sim d)))
 
     -- one transition, and then n
-    turns : {r : Turn} {e : Expr} {left : ℕ} → Goes L table R H frames bound r e left → left < suc n
-        → Agrees words ws (turned table structs types words limit r y (lent H ws) frames bound (drive table structs types words limit n)) y
-        (run (settingOf words t) (limit - y .steps) H e)
+    turns : {r : Moved} {e : Expr} {left : ℕ} → Goes L table R limit H frames bound steps first rm r e left → left < suc n
+        → Agrees words ws (after r (drive table structs types words limit n)) steps first (run (settingOf words t) (limit - steps) H e)
     turns (is-done {c = c} q e) l =
-        rw (q, e, run-done (settingOf words t) H (limit - y .steps) (c .value) (c .kind))
-        (record { outcome-same = rw (add-zero, ← first-none (y .steps) (y .first)); heap-same = refl; heap-long = M .heap-long })
-    turns (is-quiet q q-passes s l′) l = rw q (ih .from H y M s (omega arith))
-    turns (is-quiet q (q-keeps {i} {f}) s l′) l =
+        rw (q, e, run-done (settingOf words t) H (limit - steps) (c .value) (c .kind))
+        (record { outcome-same = rw (add-zero, ← first-none steps first); heap-same = refl; heap-long = M .heap-long })
+    turns (is-quiet q le s l′) l =
         rw q
-        (ih .from H y
+        (ih .from H steps first rm
         (record {
           heap-small = M .heap-small;
           heap-long = M .heap-long;
-          frames-room = rw length-framed (M .frames-room);
+          hint = M .hint;
+          frames-room = rw le (M .frames-room);
           bound-room = M .bound-room;
         })
         s
         (omega arith))
-    turns {e = e} (is-stuck {m = m} q i z) l =
-        rw (q, run-stuck (settingOf words t) H (limit - y .steps) e m z)
-        (record { outcome-same = rw (i, add-zero, first-now (y .steps) (y .first) m); heap-same = refl; heap-long = M .heap-long })
-    turns {e = e} (is-halt {s = s} q i z) l = rw q (halts e s (limit - y .steps) refl i z)
-    turns {e = e} (is-step {s = s} q k i z w hs hl sim l′) l =
-        rw q (stepping e s (limit - y .steps) refl k i z w (counted-memory k M hs hl) sim (omega arith))
+    turns {e = e} (is-stuck {m = m} q z) l =
+        rw (q, run-stuck (settingOf words t) H (limit - steps) e m z)
+        (record { outcome-same = rw (add-zero, first-now steps first m); heap-same = refl; heap-long = M .heap-long })
+    turns {e = e} (is-halt q z) l = rw q (halts e (limit - steps) refl z)
+    turns {e = e} (is-step q₀ q₁ z hs hl hint lf lb sim l′) l =
+        stepping e (limit - steps) refl q₀ q₁ z
+        (record {
+          heap-small = hs;
+          heap-long = hl ∙ M .heap-long;
+          hint = hint;
+          frames-room = rw lf (M .frames-room);
+          bound-room = rw lb (M .bound-room);
+        })
+        sim
+        (omega arith)
 
-  runs : (n : ℕ) → Runs t words ws structs types table R limit n
-  unfolding drive
-  runs zero = record { from = λ H y M s l. absurd (omega arith) }
-  runs (suc n) =
-      record {
-        from = λ {frames = frames} {bound = bound} H y M s l.
-            turns n (runs n) H y frames bound M
-            (goes L table R H (M .heap-small) (M .heap-long) frames bound (M .frames-room) (M .bound-room) s)
-            l;
-      }
+  module _ (N : ℕ) (whole : length table ≡ 4 * N) where
+    runs : (n : ℕ) → Runs t words ws structs types table R limit n
+    unfolding drive
+    runs zero = record { from = λ H steps first rm M s l. absurd (omega arith) }
+    runs (suc n) =
+        record {
+          from = λ {frames = frames} {bound = bound} H steps first rm M s l.
+              turns n (runs n) H steps first rm frames bound M
+              (goes L table R limit N whole H (M .heap-small) (M .heap-long) frames bound steps first rm (M .hint) (M .frames-room) (M .bound-room) s)
+              l;
+        }
 
 -- ---- from the start
-later-start : (o : Outcome) → later (tally 0 0) o ≡ o
+later-start : (o : Outcome) → later 0 0 o ≡ o
 unfolding laterFirst
 later-start o = rw zero-add (ap (outcome (o .end) (o .steps)) (go (o .first)))
   where
@@ -229,14 +209,15 @@ simulated {t} {words} {H} {e} {ws} {heap} {frames} {bound} {table} {structs} {ty
       words-few = r .words-few;
     } in
     let w : Waits table (height e) 0 0 0 e = record { spans = r .nodes-held; scoped = r .expr-scoped; small = r .expr-small; room = omega arith } in
-    let s : Sim table (height e) (state (Node 0) 0 0 0) frames bound (fill 0 [] e) (0 + ticks e) = at-node bottom no-lets w in
-    let m : Memory words (height e) H frames bound = record {
+    let s : Sim table (height e) 0 0 0 0 0 frames bound (fill 0 [] e) (0 + ticks e) = at-node bottom no-lets w in
+    let m : Memory words (height e) H (room 0 1) frames bound = record {
       heap-small = r .heap-small;
       heap-long = r .heap-long;
+      hint = record { low = omega arith; none = λ k a z p n v. absurd (omega arith) };
       frames-room = r .frames-room;
       bound-room = r .bound-room;
     } in
-    let a = runs L table (height e) limit (length table) .from H (tally 0 0) m s (omega (arith, few-ticks e, r .nodes-fill)) in
+    let a = runs L table (height e) limit (nodes e) (r .nodes-fill) (length table) .from H 0 0 (room 0 1) m s (omega (arith, few-ticks e, r .nodes-fill)) in
     let b = rw (fill-none 0 e) at a in
     let z : limit - 0 ≡ limit = omega arith in
     rw (r .heap-held)

@@ -1,20 +1,19 @@
 -- The frames and the bound values as the machine leaves them: what context they hold, how many transitions it still takes, and that a frame
 -- or a value that is put above keeps all below.
-use mathlib.Core.Path.{_≡_, _∙_}
+use mathlib.Core.Path.{_≡_}
 use mathlib.Core.List.{List, [], _∷_}
-use Prim.Native.Nat.{ℕ, zero, suc, _+_, _*_, _-_, _≤_, _<_}
+use Prim.Native.Nat.{ℕ, zero, suc, _+_, _*_, _-_, _/_, _≤_, _<_}
 use native.Mathlib.Omega.{arith}
 use lib.ListN.{length, getD}
 use Rattle.cells.specs.Code.{packed, modeNumber, Small}
+use Rattle.cells.specs.Lent.{putWord}
 use Rattle.cells.specs.declared.Kind.the-variants.{Int}
 use Rattle.cells.specs.declared.Cell.{Cell}
 use Rattle.calculus.specs.Setting.{cell}
 use Rattle.calculus.specs.Expr.{Expr, lit, var, malloc, bind, one, two, One, Two, nodes}
 use Rattle.image.specs.Tabled.{Row, Spans, oneCode, oneArgument, oneKind, twoCode}
-use Rattle.machine.specs.declared.Frame.{Frame}
-use Rattle.machine.specs.Tables.{frame, frameAt, framed, boundAt, bounded}
 use Rattle.image.specs.Shape.{Scoped, SmallOne, SmallExpr, small-one, height}
-use Rattle.machine.proofs.Memory.{frame-other, bound-other}
+use Rattle.machine.proofs.Memory.{Four, Below, four-below, Word, word-other}
 use Rattle.machine.proofs.Context.{Hole, in-one, in-bound, in-left, in-right, under}
 use Rattle.machine.proofs.Fill.{fill}
 
@@ -55,45 +54,43 @@ pub record Waits (t : List ℕ) (R j lets above : ℕ) (e : Expr) : Type 0 where
 pub data Stack (t : List ℕ) (R : ℕ) (frames : List ℕ) : (height : ℕ) → List Cell → List Hole → (left : ℕ) → Type 0 where
   bottom : Stack t R frames 0 [] [] 0
   on-one : {h l i : ℕ} {ρ : List Cell} {K : List Hole} {o : One} → Stack t R frames h ρ K l
-      → frameAt frames h ≡ frame i (modeNumber (under K)) 0 0 → Row t i (oneCode o) (oneArgument o) (oneKind o) 0 → SmallOne o
+      → Four frames h i (modeNumber (under K)) 0 0 → Row t i (oneCode o) (oneArgument o) (oneKind o) 0 → SmallOne o
       → Stack t R frames (suc h) ρ (in-one o ∷ K) (l + 1)
   on-bound : {h l i j : ℕ} {ρ : List Cell} {K : List Hole} {b : Expr} → Stack t R frames h ρ K l
-      → frameAt frames h ≡ frame i (modeNumber (under K)) 0 0 → Row t i 2 0 0 j → Waits t R j (suc (length ρ)) (suc h) b
+      → Four frames h i (modeNumber (under K)) 0 0 → Row t i 2 0 0 j → Waits t R j (suc (length ρ)) (suc h) b
       → Stack t R frames (suc h) ρ (in-bound (fill 1 ρ b) ∷ K) (l + 2 + ticks b)
   on-left : {h l i j : ℕ} {ρ : List Cell} {K : List Hole} {o : Two} {b : Expr} → Stack t R frames h ρ K l
-      → frameAt frames h ≡ frame i (modeNumber (under K)) 0 0 → Row t i (twoCode o) 0 0 j → Waits t R j (length ρ) (suc h) b
+      → Four frames h i (modeNumber (under K)) 0 0 → Row t i (twoCode o) 0 0 j → Waits t R j (length ρ) (suc h) b
       → Stack t R frames (suc h) ρ (in-left o (fill 0 ρ b) ∷ K) (l + 2 + ticks b)
   on-right : {h l i j : ℕ} {ρ : List Cell} {K : List Hole} {o : Two} {c : Cell} → Stack t R frames h ρ K l
-      → frameAt frames h ≡ frame i (modeNumber (under K)) (c .value) (packed (c .kind)) → Row t i (twoCode o) 0 0 j → Small (c .kind)
+      → Four frames h i (modeNumber (under K)) (c .value) (packed (c .kind)) → Row t i (twoCode o) 0 0 j → Small (c .kind)
       → Stack t R frames (suc h) ρ (in-right o c ∷ K) (l + 1)
   on-body : {h l i j : ℕ} {ρ : List Cell} {K : List Hole} {c : Cell} → Stack t R frames h ρ K l
-      → frameAt frames h ≡ frame i (modeNumber (under K)) (c .value) (packed (c .kind)) → Row t i 2 0 0 j
+      → Four frames h i (modeNumber (under K)) (c .value) (packed (c .kind)) → Row t i 2 0 0 j
       → Stack t R frames (suc h) (c ∷ ρ) K (l + 1)
 
--- the values stand in the lent list, the outermost first
+-- the values stand in the lent list as words in a heap, the outermost at address 1
 pub data Env (bound : List ℕ) : List Cell → Type 0 where
   no-lets : Env bound []
-  one-let : {ρ : List Cell} {c : Cell} → Env bound ρ → boundAt bound (length ρ) ≡ c → Small (c .kind) → Env bound (c ∷ ρ)
+  one-let : {ρ : List Cell} {c : Cell} → Env bound ρ → Word bound (suc (length ρ)) (c .value) (packed (c .kind)) → Small (c .kind)
+      → Env bound (c ∷ ρ)
 
--- a frame that is put above keeps the stack, and so does a value
-pub stack-kept : {t frames : List ℕ} {R h l : ℕ} {ρ : List Cell} {K : List Hole} (i : ℕ) (f : Frame) → h ≤ i
-    → Stack t R frames h ρ K l → Stack t R (framed frames i f) h ρ K l
-stack-kept i f m bottom = bottom
-stack-kept {frames} i f m (on-one {h} s e r o) =
-    on-one (stack-kept i f (omega arith) s) (frame-other frames i f h (omega arith) ∙ e) r o
-stack-kept {frames} i f m (on-bound {h} s e r w) =
-    on-bound (stack-kept i f (omega arith) s) (frame-other frames i f h (omega arith) ∙ e) r w
-stack-kept {frames} i f m (on-left {h} s e r w) =
-    on-left (stack-kept i f (omega arith) s) (frame-other frames i f h (omega arith) ∙ e) r w
-stack-kept {frames} i f m (on-right {h} s e r o) =
-    on-right (stack-kept i f (omega arith) s) (frame-other frames i f h (omega arith) ∙ e) r o
-stack-kept {frames} i f m (on-body {h} s e r) =
-    on-body (stack-kept i f (omega arith) s) (frame-other frames i f h (omega arith) ∙ e) r
+-- where the rows below are as they were, so is the stack
+pub stack-kept : {t frames frames′ : List ℕ} {R h i l : ℕ} {ρ : List Cell} {K : List Hole} → Below i frames frames′ → h ≤ i
+    → Stack t R frames h ρ K l → Stack t R frames′ h ρ K l
+stack-kept b m bottom = bottom
+stack-kept b m (on-one s e r o) = on-one (stack-kept b (omega arith) s) (four-below b (omega arith) e) r o
+stack-kept b m (on-bound s e r w) = on-bound (stack-kept b (omega arith) s) (four-below b (omega arith) e) r w
+stack-kept b m (on-left s e r w) = on-left (stack-kept b (omega arith) s) (four-below b (omega arith) e) r w
+stack-kept b m (on-right s e r o) = on-right (stack-kept b (omega arith) s) (four-below b (omega arith) e) r o
+stack-kept b m (on-body s e r) = on-body (stack-kept b (omega arith) s) (four-below b (omega arith) e) r
 
-pub env-kept : {bound : List ℕ} {ρ : List Cell} (i : ℕ) (c : Cell) → length ρ ≤ i → Env bound ρ → Env (bounded bound i c) ρ
-env-kept i c m no-lets = no-lets
-env-kept {bound} i c m (one-let {ρ} v e s) =
-    one-let (env-kept i c (omega arith) v) (bound-other bound i c (length ρ) (omega arith) ∙ e) s
+-- a value that is bound inside keeps those outside
+pub env-kept : {bound : List ℕ} {ρ : List Cell} (i v c : ℕ) → length ρ ≤ i → i < length bound / 2 → Env bound ρ
+    → Env (putWord bound (suc i) v c) ρ
+env-kept i v c m h no-lets = no-lets
+env-kept {bound} i v c m h (one-let {ρ} e w s) =
+    one-let (env-kept i v c (omega arith) h e) (word-other bound i v c (length ρ) (omega arith) h w) s
 
 -- no more values are bound than there are frames
 pub lets-few : {t frames : List ℕ} {R h l : ℕ} {ρ : List Cell} {K : List Hole} → Stack t R frames h ρ K l → length ρ ≤ h
@@ -106,11 +103,11 @@ lets-few (on-body s e r) = omega (arith, lets-few s)
 
 -- a bound value by how many lets out it is
 pub env-at : {bound : List ℕ} {ρ : List Cell} (k : ℕ) → Env bound ρ → k < length ρ
-    → boundAt bound (length ρ - 1 - k) ≡ getD ρ k (cell 0 Int)
+    → Word bound (length ρ - k) (getD ρ k (cell 0 Int) .value) (packed (getD ρ k (cell 0 Int) .kind))
 env-at k no-lets l = absurd (omega arith)
-env-at zero (one-let {ρ} v e s) l = let z : suc (length ρ) - 1 - 0 ≡ length ρ = omega arith in rw z e
+env-at zero (one-let {ρ} v e s) l = let z : suc (length ρ) - 0 ≡ suc (length ρ) = omega arith in rw z e
 env-at (suc k) (one-let {ρ} v e s) l =
-    let z : suc (length ρ) - 1 - suc k ≡ length ρ - 1 - k = omega arith in
+    let z : suc (length ρ) - suc k ≡ length ρ - k = omega arith in
     rw z (env-at k v (omega arith))
 
 pub env-small : {bound : List ℕ} {ρ : List Cell} (k : ℕ) → Env bound ρ → k < length ρ → Small (getD ρ k (cell 0 Int) .kind)

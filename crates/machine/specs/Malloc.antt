@@ -1,55 +1,56 @@
--- malloc over the lent numbers, and what a redex does to the heap.
+-- malloc over the lent numbers: whether there is room, and the words that then become zeros.
 use mathlib.Core.List.{List}
-use Prim.Native.Nat.{ℕ, zero, suc, _+_, _%_, _^_}
-use lib.Dec.{eqb}
+use Prim.Native.Nat.{ℕ, zero, suc, _+_, _/_, _%_, _^_}
+use lib.Dec.{eqb, leb}
 use lib.ListN.{getD}
 use Rattle.choice.specs.Choice.{choose}
-use Rattle.cells.specs.Code.{unpacked}
-use Rattle.cells.specs.Lent.{stored, lowestRun}
-use Rattle.cells.specs.declared.Kind.{Kind}
-use Rattle.cells.specs.declared.Kind.the-variants.{Int, Word, Struct, Array}
+use Rattle.cells.specs.Code.{numberIn}
+use Rattle.cells.specs.Lent.{putWord, lowestRun}
 use Rattle.cells.specs.declared.Run.{Run}
 use Rattle.cells.specs.declared.Run.the-variants.{From, Nowhere}
-use Rattle.calculus.specs.Setting.{cell}
 use Rattle.calculus.specs.declared.End.the-variants as ends
-use Rattle.machine.specs.declared.Redex.{Redex}
-use Rattle.machine.specs.declared.Redex.the-variants.{Blocked, Halts, Gives, Writes, Takes}
-use Rattle.machine.specs.Tables.{fieldCount, fieldType}
+use Rattle.machine.specs.declared.State.{State}
+use Rattle.machine.specs.declared.Room.{Room}
+use Rattle.machine.specs.declared.Turn.the-variants.{Goes}
+use Rattle.machine.specs.States.{Made, made, more, stuck, halt, stepped, focused, withRoom}
+use Rattle.machine.specs.Rules.{fieldCount, fieldType}
 
--- how many words a pointer's target covers, and the number of the i-th one's type
-abbrev pub sizeIn : List ℕ → Kind → ℕ
-sizeIn structs Int = 0
-sizeIn structs (Word m n) = 1
-sizeIn structs (Struct m s) = fieldCount structs s
-sizeIn structs (Array m k n) = k
+-- how many words the target of the pointer with that code covers, and the number of the i-th one's type
+unfoldable pub sizeIn : List ℕ → (code : ℕ) → ℕ
+sizeIn structs code =
+    choose (eqb (code % 8 / 2) 0) (λ _. 0) λ _.
+    choose (eqb (code % 8 / 2) 1) (λ _. 1) λ _.
+    choose (eqb (code % 8 / 2) 2) (λ _. fieldCount structs (numberIn code)) (λ _. code / 2048)
 
-abbrev pub typeIn : List ℕ → Kind → ℕ → ℕ
-typeIn structs Int i = 0
-typeIn structs (Word m n) i = n
-typeIn structs (Struct m s) i = fieldType structs s i
-typeIn structs (Array m k n) i = n
+unfoldable pub typeIn : List ℕ → (code i : ℕ) → ℕ
+typeIn structs code i = choose (eqb (code % 8 / 2) 2) (λ _. fieldType structs (numberIn code) i) (λ _. numberIn code)
 
-abbrev pub kindIn : (structs types : List ℕ) → Kind → ℕ → Kind
-kindIn structs types κ i = unpacked (getD types (typeIn structs κ i) 0)
+-- k words from address a on become zeros, the i-th word of the target and those behind it; a type past the end is int, whose
+-- code is 1, and numbers of 64 bits wrap
+unfoldable pub zeros : (structs types : List ℕ) (code k a i : ℕ) → List ℕ → List ℕ
+zeros structs types code zero a i ws = ws
+zeros structs types code (suc k) a i ws =
+    zeros structs types code k ((a + 1) % 2 ^ 64) ((i + 1) % 2 ^ 64) (putWord ws a 0 (getD types (typeIn structs code i) 1))
 
-abbrev pub takenRedex : Run → Kind → Redex
-takenRedex (From a) κ = Takes (cell a κ)
-takenRedex Nowhere κ = Halts ends.Room
+-- where to start to look: words are never freed, so no run of that size starts lower
+abbrev pub startAt : Room → (size : ℕ) → ℕ
+startAt r size = choose (leb (r .size) size) (λ _. r .from) (λ _. 1)
 
-unfoldable pub roomRedex : (ws structs : List ℕ) (words : ℕ) → Kind → Redex
-roomRedex ws structs words κ =
-    choose (eqb (sizeIn structs κ) 0) (λ _. Blocked) (λ _. takenRedex (lowestRun ws (sizeIn structs κ) 1 words) κ)
+-- the run found is taken, a step later, and remembered
+unfoldable pub takenFrom : (structs types : List ℕ) (limit : ℕ) → List ℕ → State → (code size a : ℕ) → Made
+takenFrom structs types limit ws s code size a =
+    choose (leb limit (s .steps)) (λ _. made (more s) ws)
+    (λ _. made (Goes (stepped (withRoom (focused s a code) size a))) (zeros structs types code size a 0 ws))
 
--- k words from address a on become zeros, the i-th word of the target and those behind it; numbers of 64 bits wrap
-unfoldable pub zeros : (structs types : List ℕ) → Kind → (k a i : ℕ) → List ℕ → List ℕ
-zeros structs types κ zero a i ws = ws
-zeros structs types κ (suc k) a i ws =
-    zeros structs types κ k ((a + 1) % 2 ^ 64) ((i + 1) % 2 ^ 64) (stored ws a (cell 0 (kindIn structs types κ i)))
+abbrev pub takenRun : Run → (structs types : List ℕ) (limit : ℕ) → List ℕ → State → (code size : ℕ) → Made
+takenRun (From a) structs types limit ws s code size = takenFrom structs types limit ws s code size a
+takenRun Nowhere structs types limit ws s code size = made (halt limit s ends.Room) ws
 
--- the heap's numbers after a redex
-unfoldable pub performed : (structs types : List ℕ) → Redex → List ℕ → List ℕ
-performed structs types Blocked ws = ws
-performed structs types (Halts e) ws = ws
-performed structs types (Gives c) ws = ws
-performed structs types (Writes a c) ws = stored ws a c
-performed structs types (Takes p) ws = zeros structs types (p .kind) (sizeIn structs (p .kind)) (p .value) 0 ws
+-- the lowest run of words that is long enough for the target of the pointer with that code
+unfoldable pub roomFor : (structs types : List ℕ) (words limit : ℕ) → List ℕ → State → (code size : ℕ) → Made
+roomFor structs types words limit ws s code size =
+    choose (eqb size 0) (λ _. made (stuck s) ws)
+    (λ _. takenRun (lowestRun ws size (startAt (s .room) size) words) structs types limit ws s code size)
+
+abbrev pub roomAt : (structs types : List ℕ) (words limit : ℕ) → List ℕ → State → (code : ℕ) → Made
+roomAt structs types words limit ws s code = roomFor structs types words limit ws s code (sizeIn structs code)

@@ -1,65 +1,64 @@
--- The rules for a redex over the lent numbers: what it does, with the change of the heap still to be made.
+-- The rules for a redex whose parts are values, by "Steps", on codes of kinds: even is checked, the rest by 8 is 2 or 3 for a pointer to a
+-- word, 4 or 5 to a struct, 6 or 7 to an array, above it the number and an array's count.
 use mathlib.Core.List.{List}
-use Prim.Native.Nat.{ℕ, _+_, _-_, _%_, _^_}
-use lib.Dec.{eqb, leb}
+use Prim.Native.Nat.{ℕ, _+_, _-_, _*_, _/_, _%_, _^_}
+use lib.Dec.{eqb, leb, ltb}
+use lib.ListN.{getD}
 use Rattle.choice.specs.Choice.{choose, both}
-use Rattle.cells.specs.Lent.{wordAt}
-use Rattle.cells.specs.declared.Mode.{Mode}
-use Rattle.cells.specs.declared.Mode.the-variants.{Checked, Unchecked}
-use Rattle.cells.specs.declared.Kind.{Kind}
-use Rattle.cells.specs.declared.Kind.the-variants.{Int, Word, Struct, Array}
-use Rattle.cells.specs.declared.Cell.{Cell}
-use Rattle.cells.specs.declared.HeapWord.{HeapWord}
-use Rattle.cells.specs.declared.HeapWord.the-variants.{Undefined, Holds}
-use Rattle.calculus.specs.Setting.{cell, isChecked, checkedPointer, checkedEmpty}
-use Rattle.calculus.specs.Steps.{fallen, checkedArray}
-use Rattle.calculus.specs.declared.End.the-variants.{Null, Bounds}
+use Rattle.cells.specs.Code.{numberIn}
+use Rattle.cells.specs.Lent.{numberAt, putWord}
+use Rattle.calculus.specs.declared.End.the-variants as ends
+use Rattle.machine.specs.declared.State.{State}
 use Rattle.machine.specs.declared.Redex.{Redex}
-use Rattle.machine.specs.declared.Redex.the-variants.{Blocked, Halts, Gives, Writes, Takes}
-use Rattle.machine.specs.Tables.{fieldCount, fieldType}
+use Rattle.machine.specs.declared.Redex.the-variants.{Gives, Null, Bounds, Blocked}
+use Rattle.machine.specs.declared.Turn.the-variants.{Goes}
+use Rattle.machine.specs.States.{Made, made, more, stuck, halt, stepped}
 
--- what is left of an array pointer's count
-abbrev pub fallenCount : Mode → (count k : ℕ) → ℕ
-fallenCount Checked count k = count - k
-fallenCount Unchecked count k = count
+-- what the word at an address holds: what is lent behind the heap's words is not looked at
+unfoldable pub heldRedex : List ℕ → (words a : ℕ) → Redex
+heldRedex ws words a =
+    choose (ltb words a) (λ _. Blocked) λ _.
+    choose (eqb (numberAt ws a 1) 0) (λ _. Blocked) (λ _. Gives (numberAt ws a 0) (numberAt ws a 1))
 
-abbrev pub heldRedex : HeapWord → Redex
-heldRedex Undefined = Blocked
-heldRedex (Holds c) = Gives c
+-- a read: "a checked pointer with v = 0 halts with Null; then a checked pointer to an array of 0 halts with Bounds"
+unfoldable pub readRedex : List ℕ → (words v code : ℕ) → Redex
+readRedex ws words v code =
+    choose (both (eqb (code % 2) 0) (eqb v 0)) (λ _. Null) λ _.
+    choose (both (eqb (code % 8) 6) (eqb (code / 2048) 0)) (λ _. Bounds) (λ _. heldRedex ws words v)
 
--- the word at an address within the heap's words: what is lent behind them is not looked at
-abbrev pub wordIn : List ℕ → (words a : ℕ) → HeapWord
-wordIn ws words a = choose (leb a words) (λ _. wordAt ws a) (λ _. Undefined)
+-- an assign of the value in focus: where a read gives a value
+unfoldable pub written : (limit : ℕ) → List ℕ → State → (a : ℕ) → Made
+written limit ws s a =
+    choose (leb limit (s .steps)) (λ _. made (more s) ws) (λ _. made (Goes (stepped s)) (putWord ws a (s .at) (s .code)))
 
--- a read
-unfoldable pub readRedex : List ℕ → (words : ℕ) → Cell → Redex
-readRedex ws words p =
-    choose (both (checkedPointer (p .kind)) (eqb (p .value) 0)) (λ _. Halts Null) λ _.
-    choose (checkedEmpty (p .kind)) (λ _. Halts Bounds) (λ _. heldRedex (wordIn ws words (p .value)))
+abbrev pub assignedBy : Redex → (limit : ℕ) → List ℕ → State → (a : ℕ) → Made
+assignedBy (Gives value code) limit ws s a = written limit ws s a
+assignedBy Null limit ws s a = made (halt limit s ends.Null) ws
+assignedBy Bounds limit ws s a = made (halt limit s ends.Bounds) ws
+assignedBy Blocked limit ws s a = made (stuck s) ws
 
--- an assign: where a read gives a value
-abbrev pub writtenRedex : Redex → ℕ → Cell → Redex
-writtenRedex Blocked a c = Blocked
-writtenRedex (Halts e) a c = Halts e
-writtenRedex (Gives d) a c = Writes a c
-writtenRedex (Writes b d) a c = Blocked
-writtenRedex (Takes d) a c = Blocked
+unfoldable pub assigned : (words limit : ℕ) → List ℕ → State → (v code : ℕ) → Made
+assigned words limit ws s v code = assignedBy (readRedex ws words v code) limit ws s v
 
--- a sum
-unfoldable pub sumRule : Cell → ℕ → Redex
-sumRule p k =
-    choose (both (checkedArray (p .kind)) (eqb (p .value) 0)) (λ _. Halts Null)
-    (λ _. Gives (cell ((p .value + k) % 2 ^ 32) (fallen (p .kind) k)))
+-- a sum: the count of a checked array pointer falls by the number, not below 0
+unfoldable pub sumRule : (v code k : ℕ) → Redex
+sumRule v code k =
+    choose (eqb (code % 8) 6)
+    (λ _. choose (eqb v 0) (λ _. Null) (λ _. Gives ((v + k) % 2 ^ 32) (code % 2048 + 2048 * (code / 2048 - k))))
+    (λ _. Gives ((v + k) % 2 ^ 32) code)
 
--- a field address
-unfoldable pub structField : List ℕ → (f value : ℕ) → Mode → ℕ → Redex
+-- a struct's field count, and the word type number of a field: structs have a stride of 17
+abbrev pub fieldCount : List ℕ → ℕ → ℕ
+fieldCount t s = getD t (17 * s) 0
+
+abbrev pub fieldType : List ℕ → (s f : ℕ) → ℕ
+fieldType t s f = getD t (17 * s + 1 + f) 0
+
+-- a field address; the mode is the pointer's, 0 if it is checked
+unfoldable pub structField : List ℕ → (f v mode s : ℕ) → Redex
 structField t f v m s =
     choose (leb (fieldCount t s) f) (λ _. Blocked) λ _.
-    choose (both (isChecked m) (eqb v 0)) (λ _. Halts Null)
-    (λ _. Gives (cell ((v + f) % 2 ^ 32) (Word m (fieldType t s f % 256))))
+    choose (both (eqb m 0) (eqb v 0)) (λ _. Null) (λ _. Gives ((v + f) % 2 ^ 32) (2 + m + 8 * (fieldType t s f % 256)))
 
-abbrev pub fieldRule : List ℕ → (f value : ℕ) → Kind → Redex
-fieldRule t f v Int = Blocked
-fieldRule t f v (Word m n) = Blocked
-fieldRule t f v (Struct m s) = structField t f v m s
-fieldRule t f v (Array m k n) = Blocked
+unfoldable pub fieldRule : List ℕ → (f v code : ℕ) → Redex
+fieldRule t f v code = choose (eqb (code % 8 / 2) 2) (λ _. structField t f v (code % 2) (numberIn code)) (λ _. Blocked)

@@ -1,35 +1,20 @@
--- The lent tables, number by number: rows of four (nodes, frames), bound values in two, structs in seventeen. Past the end there are zeros.
+-- The lent tables in rows of four numbers, nodes and frames. A row that is not whole is not there.
 use mathlib.Core.List.{List}
-use Prim.Native.Nat.{ℕ, _+_, _*_}
-use lib.ListN.{getD, set}
-use Rattle.cells.specs.Code.{packed, unpacked}
-use Rattle.cells.specs.declared.Cell.{Cell}
-use Rattle.machine.specs.declared.Frame.{Frame}
+use Prim.Native.Nat.{ℕ, _+_, _*_, _/_}
+use lib.Dec.{ltb}
+use lib.ListN.{length, getD, set}
+use Rattle.choice.specs.Choice.{choose}
 
--- number j of row i
-abbrev pub rowAt : List ℕ → ℕ → ℕ → ℕ
-rowAt t i j = getD t (4 * i + j) 0
+-- number j of row i, 0 where there is no such row
+unfoldable pub rowAt : List ℕ → (i j : ℕ) → ℕ
+rowAt t i j = choose (ltb i (length t / 4)) (λ _. getD t (4 * i + j) 0) (λ _. 0)
 
-abbrev pub frame : (node inside value code : ℕ) → Frame
-frame node inside value code = record { node = node; inside = inside; value = value; code = code }
+-- A frame is a node, whether it lies inside an unchecked block, and the value of its first part with the code of its kind, 0 while that
+-- part is evaluated. The frames after a node was put at a place to wait for its first part:
+unfoldable pub framed : List ℕ → (i node inside : ℕ) → List ℕ
+framed t i node inside =
+    choose (ltb i (length t / 4)) (λ _. set (set (set (set t (4 * i) node) (4 * i + 1) inside) (4 * i + 2) 0) (4 * i + 3) 0) (λ _. t)
 
--- the frame at a place, and the frames after one was put there
-unfoldable pub frameAt : List ℕ → ℕ → Frame
-frameAt t i = frame (rowAt t i 0) (rowAt t i 1) (rowAt t i 2) (rowAt t i 3)
-
-unfoldable pub framed : List ℕ → ℕ → Frame → List ℕ
-framed t i f = set (set (set (set t (4 * i) (f .node)) (4 * i + 1) (f .inside)) (4 * i + 2) (f .value)) (4 * i + 3) (f .code)
-
--- the bound value at a place, and the values after one was put there
-unfoldable pub boundAt : List ℕ → ℕ → Cell
-boundAt t i = record { value = getD t (2 * i + 0) 0; kind = unpacked (getD t (2 * i + 1) 0) }
-
-unfoldable pub bounded : List ℕ → ℕ → Cell → List ℕ
-bounded t i c = set (set t (2 * i) (c .value)) (2 * i + 1) (packed (c .kind))
-
--- a struct's field count, and the word type number of a field
-abbrev pub fieldCount : List ℕ → ℕ → ℕ
-fieldCount t s = getD t (17 * s) 0
-
-abbrev pub fieldType : List ℕ → (s f : ℕ) → ℕ
-fieldType t s f = getD t (17 * s + 1 + f) 0
+-- and after the value of that part was put there
+unfoldable pub kept : List ℕ → (i value code : ℕ) → List ℕ
+kept t i value code = choose (ltb i (length t / 4)) (λ _. set (set t (4 * i + 2) value) (4 * i + 3) code) (λ _. t)

@@ -1,116 +1,123 @@
 // malloc: whether there is room, and the words that then become zeros.
+ghost use Prim.Native.Nat.{_<_, _^_};
 ghost use mathlib.Core.Path.{_≡_};
-ghost use Rattle.machine.specs.Room.{sizeIn, typeIn, kindIn, takenRedex, roomRedex, zeros, performed};
-use crate::Redex;
-use crate::tables::field_count;
-use crate::tables::field_type;
-use crate::tables::wide;
+ghost use lib.ListN.{getD};
+ghost use Rattle.machine.specs.Malloc.{sizeIn, typeIn, startAt, takenFrom, roomAt, zeros};
+ghost use Rattle.machine.specs.States.{made};
+use crate::Room;
+use crate::State;
+use crate::Turn;
+use crate::rules::field_count;
+use crate::rules::field_type;
+use crate::rules::number_of;
+use crate::states::focused;
+use crate::states::halt;
+use crate::states::more;
+use crate::states::stepped;
+use crate::states::stuck;
+use crate::states::with_room;
 use calculus::End;
-use cells::Cell;
-use cells::Kind;
 use cells::Run;
 use cells::lowest_run;
-use cells::store;
-use cells::unpack;
-use cells::word;
+use cells::put_word;
 
 // Room for the target of a checked pointer: the lowest run of words that is long enough.
-pub fn malloc(heap: &[u64], structs: &[u64], words: usize, kind: Kind) -> Redex
-    ensures { λ r. ⌜ r ≡ roomRedex (now (heap .entry)) (now (structs .entry)) words kind ⌝ }
+pub fn malloc(
+    heap: &mut [u64],
+    structs: &[u64],
+    types: &[u64],
+    words: usize,
+    limit: u64,
+    s: State,
+    code: u64,
+) -> Turn
+    requires { ⌜ s .steps < 2 ^ 63 ⌝ }
+    ensures { λ r. ⌜ made r (now (heap .exit)) ≡ roomAt (now (structs .entry)) (now (types .entry)) words limit (now (heap .entry)) s code ⌝ }
 {
-    let k = size(structs, kind);
-    if k == 0 {
-        return Redex::Blocked;
+    let size = size_of(structs, code);
+    if size == 0 {
+        return stuck(s);
     }
-    taken(lowest_run(heap, k, 1, words), kind)
+    let room = s.room;
+    match lowest_run(heap, size, start(room, size), words) {
+        Run::From(address) => take(heap, structs, types, limit, s, code, size, address),
+        Run::Nowhere => halt(s, limit, End::Room),
+    }
 }
 
-// What a redex does to the heap.
-pub fn perform(heap: &mut [u64], structs: &[u64], types: &[u64], redex: Redex)
-    ensures { λ r. ⌜ now (heap .exit) ≡ performed (now (structs .entry)) (now (types .entry)) redex (now (heap .entry)) ⌝ }
+// Where to start to look: no run of that size starts lower.
+fn start(room: Room, size: usize) -> usize
+    ensures { λ r. ⌜ r ≡ startAt room size ⌝ }
 {
-    match redex {
-        Redex::Blocked => {}
-        Redex::Halts(_) => {}
-        Redex::Gives(_) => {}
-        Redex::Writes(address, cell) => store(heap, address, cell),
-        Redex::Takes(pointer) => zero(heap, structs, types, pointer),
+    if room.size <= size { room.from } else { 1 }
+}
+
+// The run found is taken, a step later: no run of that size starts lower from now on.
+fn take(
+    heap: &mut [u64],
+    structs: &[u64],
+    types: &[u64],
+    limit: u64,
+    s: State,
+    code: u64,
+    size: usize,
+    address: usize,
+) -> Turn
+    requires { ⌜ s .steps < 2 ^ 63 ⌝ }
+    ensures { λ r. ⌜ made r (now (heap .exit)) ≡ takenFrom (now (structs .entry)) (now (types .entry)) limit (now (heap .entry)) s code size address ⌝ }
+{
+    if limit <= s.steps {
+        return more(s);
     }
+    zero(heap, structs, types, code, size, address);
+    let taken = with_room(focused(s, address as u64, code), size, address);
+    Turn::Goes(stepped(taken))
 }
 
 // The words that a pointer's target covers become zeros of the target's types.
-fn zero(heap: &mut [u64], structs: &[u64], types: &[u64], pointer: Cell)
-    ensures { λ r. ⌜ now (heap .exit) ≡ zeros (now (structs .entry)) (now (types .entry)) (pointer .kind) (sizeIn (now (structs .entry)) (pointer .kind)) (pointer .value) 0 (now (heap .entry)) ⌝ }
+fn zero(heap: &mut [u64], structs: &[u64], types: &[u64], code: u64, size: usize, address: usize)
+    ensures { λ r. ⌜ now (heap .exit) ≡ zeros (now (structs .entry)) (now (types .entry)) code size address 0 (now (heap .entry)) ⌝ }
 {
-    let kind = pointer.kind;
-    let mut left = size(structs, kind);
-    let mut address = pointer.value as usize;
+    let mut left = size;
+    let mut a = address;
     let mut i = 0;
     while left > 0 {
-        store(
-            heap,
-            address,
-            Cell {
-                value: 0,
-                kind: word_kind(structs, types, kind, i),
-            },
-        );
+        put_word(heap, a, 0, type_code(types, word_type(structs, code, i)));
         // A run ends within the heap, so neither number wraps there.
-        address = std::num::wrapping_add_usize(address, 1);
+        a = std::num::wrapping_add_usize(a, 1);
         i = std::num::wrapping_add_usize(i, 1);
         left -= 1;
     }
 }
 
-// The run found is taken.
-fn taken(run: Run, kind: Kind) -> Redex
-    ensures { λ r. ⌜ r ≡ takenRedex run kind ⌝ }
+// The code of the word type with a number: int's where there is no such type.
+fn type_code(types: &[u64], n: usize) -> u64
+    ensures { λ r. ⌜ r ≡ getD (now (types .entry)) n 1 ⌝ }
 {
-    match run {
-        Run::From(address) => Redex::Takes(Cell {
-            value: address as u64,
-            kind,
-        }),
-        Run::Nowhere => Redex::Halts(End::Room),
-    }
+    if n < types.len() { types[n] } else { 1 }
 }
 
 // How many words a pointer's target covers.
-fn size(structs: &[u64], kind: Kind) -> usize
-    ensures { λ r. ⌜ r ≡ sizeIn (now (structs .entry)) kind ⌝ }
+fn size_of(structs: &[u64], code: u64) -> usize
+    ensures { λ r. ⌜ r ≡ sizeIn (now (structs .entry)) code ⌝ }
 {
-    match kind {
-        Kind::Int => 0,
-        Kind::Word { mode: _, of: _ } => 1,
-        Kind::Struct { mode: _, of } => field_count(structs, of) as usize,
-        Kind::Array {
-            mode: _,
-            count,
-            of: _,
-        } => count as usize,
+    let tag = code % 8 / 2;
+    match tag {
+        0 => 0,
+        1 => 1,
+        2 => field_count(structs, number_of(code)) as usize,
+        _ => (code / 2048) as usize,
     }
 }
 
-// The type of the i-th of those words.
-fn word_kind(structs: &[u64], types: &[u64], kind: Kind, i: usize) -> Kind
-    ensures { λ r. ⌜ r ≡ kindIn (now (structs .entry)) (now (types .entry)) kind i ⌝ }
+// The number of the type of the i-th of those words.
+fn word_type(structs: &[u64], code: u64, i: usize) -> usize
+    ensures { λ r. ⌜ r ≡ typeIn (now (structs .entry)) code i ⌝ }
 {
-    let n = word_type(structs, kind, i);
-    unpack(word(types, n))
-}
-
-// That type's number.
-fn word_type(structs: &[u64], kind: Kind, i: usize) -> usize
-    ensures { λ r. ⌜ r ≡ typeIn (now (structs .entry)) kind i ⌝ }
-{
-    match kind {
-        Kind::Int => 0,
-        Kind::Word { mode: _, of } => wide(of),
-        Kind::Struct { mode: _, of } => field_type(structs, of, i) as usize,
-        Kind::Array {
-            mode: _,
-            count: _,
-            of,
-        } => wide(of),
+    let of = number_of(code);
+    if code % 8 / 2 == 2 {
+        field_type(structs, of, i) as usize
+    } else {
+        of
     }
 }

@@ -1,93 +1,154 @@
-// The rules for a redex whose parts are values, by "Steps". Nothing is changed here.
+// The rules for a redex whose parts are values, by "Steps", on codes of kinds: even is checked, the rest by 8 is 2 or 3 for a pointer to a
+// word, 4 or 5 to a struct, 6 or 7 to an array, above it the number (8 bits) and an array's count.
 ghost use Prim.Native.Nat.{_+_, _-_, _<_, _%_, _^_};
 ghost use mathlib.Core.Path.{_≡_};
-ghost use mathlib.Core.Bool.{true};
 ghost use lib.Dec.{eqb};
 ghost use Rattle.choice.specs.Choice.{both};
-ghost use Rattle.calculus.specs.Setting as setting;
-ghost use Rattle.calculus.specs.Steps as steps;
-ghost use Rattle.machine.specs.Rules.{fallenCount, readRedex, heldRedex, writtenRedex, sumRule, structField, fieldRule, wordIn};
+ghost use Rattle.cells.specs.Code.{numberIn};
+ghost use Rattle.machine.specs.Rules.{readRedex, heldRedex, sumRule, fieldRule, structField, fieldCount, fieldType, written, assigned};
+ghost use Rattle.machine.specs.States.{made};
 use crate::Redex;
-use crate::tables::field_count;
-use crate::tables::field_type;
+use crate::State;
+use crate::Turn;
+use crate::states::halt;
+use crate::states::more;
+use crate::states::stepped;
+use crate::states::stuck;
 use calculus::End;
-use cells::Cell;
-use cells::HeapWord;
-use cells::Kind;
-use cells::Mode;
-use cells::cell_at;
+use cells::number_at;
+use cells::put_word;
+use cells::word;
 
 // Read at a pointer.
-pub fn read(heap: &[u64], words: usize, pointer: Cell) -> Redex
-    ensures { λ r. ⌜ r ≡ readRedex (now (heap .entry)) words pointer ⌝ }
+pub fn read(heap: &[u64], words: usize, value: u64, code: u64) -> Redex
+    ensures { λ r. ⌜ r ≡ readRedex (now (heap .entry)) words value code ⌝ }
 {
-    let kind = pointer.kind;
-    if null(checked_pointer(kind), pointer.value) {
-        return Redex::Halts(End::Null);
+    if zero_where(code % 2 == 0, value) {
+        return Redex::Null;
     }
-    if checked_empty(kind) {
-        return Redex::Halts(End::Bounds);
+    if zero_where(code % 8 == 6, code / 2048) {
+        return Redex::Bounds;
     }
-    held(word_within(heap, words, pointer.value as usize))
+    held(heap, words, value as usize)
 }
 
-// Assign a value at a pointer: where a read gives a value.
-pub fn assign(heap: &[u64], words: usize, pointer: Cell, cell: Cell) -> Redex
-    ensures { λ r. ⌜ r ≡ writtenRedex (readRedex (now (heap .entry)) words pointer) (pointer .value) cell ⌝ }
+// What the word at an address holds: what is lent behind the heap's words is not looked at.
+fn held(heap: &[u64], words: usize, address: usize) -> Redex
+    ensures { λ r. ⌜ r ≡ heldRedex (now (heap .entry)) words address ⌝ }
 {
-    written(read(heap, words, pointer), pointer.value as usize, cell)
+    if words < address {
+        return Redex::Blocked;
+    }
+    let code = number_at(heap, address, 1);
+    if code == 0 {
+        return Redex::Blocked;
+    }
+    Redex::Gives {
+        value: number_at(heap, address, 0),
+        code,
+    }
 }
 
-// The sum of a value and a number.
-pub fn sum(left: Cell, k: u64) -> Redex
-    ensures { λ r. ⌜ r ≡ sumRule left k ⌝ }
+// Assign the value in focus at a pointer: where a read gives a value.
+pub fn assign(heap: &mut [u64], words: usize, limit: u64, s: State, value: u64, code: u64) -> Turn
+    requires { ⌜ s .steps < 2 ^ 63 ⌝ }
+    ensures { λ r. ⌜ made r (now (heap .exit)) ≡ assigned words limit (now (heap .entry)) s value code ⌝ }
 {
-    let kind = left.kind;
-    if null(checked_array(kind), left.value) {
-        return Redex::Halts(End::Null);
+    match read(heap, words, value, code) {
+        Redex::Gives { value: _, code: _ } => write(heap, limit, s, value as usize),
+        Redex::Null => halt(s, limit, End::Null),
+        Redex::Bounds => halt(s, limit, End::Bounds),
+        Redex::Blocked => stuck(s),
     }
-    Redex::Gives(Cell {
-        value: added(left.value, k),
-        kind: fallen(kind, k),
-    })
+}
+
+// The word at the address holds the value in focus, a step later.
+fn write(heap: &mut [u64], limit: u64, s: State, address: usize) -> Turn
+    requires { ⌜ s .steps < 2 ^ 63 ⌝ }
+    ensures { λ r. ⌜ made r (now (heap .exit)) ≡ written limit (now (heap .entry)) s address ⌝ }
+{
+    if limit <= s.steps {
+        return more(s);
+    }
+    put_word(heap, address, s.at, s.code);
+    Turn::Goes(stepped(s))
+}
+
+// The sum of a value and a number: the count of a checked array pointer falls by the number, not below 0.
+pub fn sum(value: u64, code: u64, k: u64) -> Redex
+    ensures { λ r. ⌜ r ≡ sumRule value code k ⌝ }
+{
+    if code % 8 == 6 {
+        if value == 0 {
+            return Redex::Null;
+        }
+        let count = lowered(code / 2048, k);
+        return Redex::Gives {
+            value: added(value, k),
+            code: code % 2048 + 2048 * count,
+        };
+    }
+    Redex::Gives {
+        value: added(value, k),
+        code,
+    }
 }
 
 // The address of a field.
-pub fn field_address(structs: &[u64], f: u64, pointer: Cell) -> Redex
-    ensures { λ r. ⌜ r ≡ fieldRule (now (structs .entry)) f (pointer .value) (pointer .kind) ⌝ }
+pub fn field_address(structs: &[u64], f: u64, value: u64, code: u64) -> Redex
+    ensures { λ r. ⌜ r ≡ fieldRule (now (structs .entry)) f value code ⌝ }
 {
-    let kind = pointer.kind;
-    match kind {
-        Kind::Int => Redex::Blocked,
-        Kind::Word { mode: _, of: _ } => Redex::Blocked,
-        Kind::Struct { mode, of } => struct_field(structs, f, pointer.value, mode, of),
-        Kind::Array {
-            mode: _,
-            count: _,
-            of: _,
-        } => Redex::Blocked,
+    if code % 8 / 2 == 2 {
+        struct_field(structs, f, value, code % 2, number_of(code))
+    } else {
+        Redex::Blocked
     }
 }
 
-// The address of a struct's field.
-fn struct_field(structs: &[u64], f: u64, value: u64, mode: Mode, of: u8) -> Redex
+// The address of a field of the struct with a number; the mode is the pointer's, 0 if it is checked.
+fn struct_field(structs: &[u64], f: u64, value: u64, mode: u64, of: usize) -> Redex
+    requires { ⌜ (mode < 2) × (of < 256) ⌝ }
     ensures { λ r. ⌜ r ≡ structField (now (structs .entry)) f value mode of ⌝ }
 {
     let count = field_count(structs, of);
     if count <= f {
         return Redex::Blocked;
     }
-    if null(is_checked(mode), value) {
-        return Redex::Halts(End::Null);
+    if zero_where(mode == 0, value) {
+        return Redex::Null;
     }
     let field = field_type(structs, of, f as usize) % 256;
-    Redex::Gives(Cell {
+    Redex::Gives {
         value: added(value, f),
-        kind: Kind::Word {
-            mode,
-            of: field as u8,
-        },
-    })
+        code: 2 + mode + 8 * field,
+    }
+}
+
+// How many fields a struct has.
+pub fn field_count(structs: &[u64], of: usize) -> u64
+    requires { ⌜ of < 256 ⌝ }
+    ensures { λ r. ⌜ r ≡ fieldCount (now (structs .entry)) of ⌝ }
+{
+    word(structs, 17 * of)
+}
+
+// The word type number of a struct's field.
+pub fn field_type(structs: &[u64], of: usize, f: usize) -> u64
+    requires { ⌜ of < 256 ⌝ }
+    ensures { λ r. ⌜ r ≡ fieldType (now (structs .entry)) of f ⌝ }
+{
+    if f < structs.len() {
+        word(structs, 17 * of + 1 + f)
+    } else {
+        0
+    }
+}
+
+// The number in a code: of a word type, or of a struct.
+pub fn number_of(code: u64) -> usize
+    ensures { λ r. ⌜ (r ≡ numberIn code) × (r < 256) ⌝ }
+{
+    (code / 8 % 256) as usize
 }
 
 // "Sums of numbers are taken modulo 2^32".
@@ -97,126 +158,16 @@ fn added(n: u64, k: u64) -> u64
     std::num::wrapping_add_u64(n, k) % 4294967296
 }
 
-// The count of a checked array pointer falls by the number, not below 0.
-fn fallen(kind: Kind, k: u64) -> Kind
-    ensures { λ r. ⌜ r ≡ steps.fallen kind k ⌝ }
-{
-    match kind {
-        Kind::Int => Kind::Int,
-        Kind::Word { mode, of } => Kind::Word { mode, of },
-        Kind::Struct { mode, of } => Kind::Struct { mode, of },
-        Kind::Array { mode, count, of } => Kind::Array {
-            mode,
-            count: fallen_count(mode, count, k),
-            of,
-        },
-    }
-}
-
-// Only a checked pointer's count falls.
-fn fallen_count(mode: Mode, count: u16, k: u64) -> u16
-    ensures { λ r. ⌜ r ≡ fallenCount mode count k ⌝ }
-{
-    match mode {
-        Mode::Checked => lowered(count, k),
-        Mode::Unchecked => count,
-    }
-}
-
-fn lowered(count: u16, k: u64) -> u16
+// The count less the number, not below 0.
+fn lowered(count: u64, k: u64) -> u64
     ensures { λ r. ⌜ r ≡ count - k ⌝ }
 {
-    let c = count as u64;
-    if k < c { (c - k) as u16 } else { 0 }
+    if k < count { count - k } else { 0 }
 }
 
-// The word at an address within the heap's words: what is lent behind them is not looked at.
-fn word_within(heap: &[u64], words: usize, address: usize) -> HeapWord
-    ensures { λ r. ⌜ r ≡ wordIn (now (heap .entry)) words address ⌝ }
+// The rule applies, and the number is 0.
+fn zero_where(applies: bool, n: u64) -> bool
+    ensures { λ r. ⌜ r ≡ both applies (eqb n 0) ⌝ }
 {
-    if address <= words {
-        cell_at(heap, address)
-    } else {
-        HeapWord::Undefined
-    }
-}
-
-// A read at a word.
-fn held(word: HeapWord) -> Redex
-    ensures { λ r. ⌜ r ≡ heldRedex word ⌝ }
-{
-    match word {
-        HeapWord::Undefined => Redex::Blocked,
-        HeapWord::Holds(cell) => Redex::Gives(cell),
-    }
-}
-
-// An assign, by what a read does there.
-fn written(redex: Redex, address: usize, cell: Cell) -> Redex
-    ensures { λ r. ⌜ r ≡ writtenRedex redex address cell ⌝ }
-{
-    match redex {
-        Redex::Blocked => Redex::Blocked,
-        Redex::Halts(end) => Redex::Halts(end),
-        Redex::Gives(_) => Redex::Writes(address, cell),
-        Redex::Writes(_, _) => Redex::Blocked,
-        Redex::Takes(_) => Redex::Blocked,
-    }
-}
-
-// A checked pointer, if it is one, is null.
-fn null(checked: bool, value: u64) -> bool
-    ensures { λ r. ⌜ r ≡ both checked (eqb value 0) ⌝ }
-{
-    if checked { value == 0 } else { false }
-}
-
-fn is_checked(mode: Mode) -> bool
-    ensures { λ r. ⌜ r ≡ setting.isChecked mode ⌝ }
-{
-    match mode {
-        Mode::Checked => true,
-        Mode::Unchecked => false,
-    }
-}
-
-fn checked_pointer(kind: Kind) -> bool
-    ensures { λ r. ⌜ r ≡ setting.checkedPointer kind ⌝ }
-{
-    match kind {
-        Kind::Int => false,
-        Kind::Word { mode, of: _ } => is_checked(mode),
-        Kind::Struct { mode, of: _ } => is_checked(mode),
-        Kind::Array {
-            mode,
-            count: _,
-            of: _,
-        } => is_checked(mode),
-    }
-}
-
-fn checked_array(kind: Kind) -> bool
-    ensures { λ r. ⌜ r ≡ steps.checkedArray kind ⌝ }
-{
-    match kind {
-        Kind::Int => false,
-        Kind::Word { mode: _, of: _ } => false,
-        Kind::Struct { mode: _, of: _ } => false,
-        Kind::Array {
-            mode,
-            count: _,
-            of: _,
-        } => is_checked(mode),
-    }
-}
-
-fn checked_empty(kind: Kind) -> bool
-    ensures { λ r. ⌜ r ≡ setting.checkedEmpty kind ⌝ }
-{
-    match kind {
-        Kind::Int => false,
-        Kind::Word { mode: _, of: _ } => false,
-        Kind::Struct { mode: _, of: _ } => false,
-        Kind::Array { mode, count, of: _ } => null(is_checked(mode), count as u64),
-    }
+    if applies { n == 0 } else { false }
 }

@@ -1,111 +1,39 @@
-// Total accessors of the lent tables: rows of four numbers (nodes, frames), bound values in two, structs in seventeen.
-ghost use Prim.Native.Nat.{_+_, _*_, _<_};
+// Total accessors of the lent tables in rows of four numbers: the nodes, and the frames (node, whether it lies inside an unchecked block,
+// then the value of its first part with the code of its kind, 0 while that part is evaluated). A row that is not whole is not there.
+ghost use Prim.Native.Nat.{_<_};
 ghost use mathlib.Core.Path.{_≡_};
-ghost use lib.ListN.{getD};
-ghost use Rattle.machine.specs.Tables.{rowAt, frameAt, framed, boundAt, bounded, fieldCount, fieldType};
-use crate::Frame;
-use cells::Cell;
-use cells::pack;
-use cells::put;
-use cells::unpack;
-use cells::word;
+ghost use Rattle.machine.specs.Tables.{rowAt, framed, kept};
 
-// Number j of row i.
+// Number j of row i, 0 where there is no such row.
 pub fn row(table: &[u64], i: usize, j: usize) -> u64
     requires { ⌜ j < 4 ⌝ }
     ensures { λ r. ⌜ r ≡ rowAt (now (table .entry)) i j ⌝ }
 {
-    if i < table.len() {
-        word(table, 4 * i + j)
+    if i < table.len() / 4 {
+        table[4 * i + j]
     } else {
         0
     }
 }
 
-// The frame at a place.
-pub fn frame_at(frames: &[u64], i: usize) -> Frame
-    ensures { λ r. ⌜ r ≡ frameAt (now (frames .entry)) i ⌝ }
+// A node waits for its first part in frame i from now on; where there is no such row nothing changes.
+pub fn put_frame(frames: &mut [u64], i: usize, node: u64, inside: u64)
+    ensures { λ r. ⌜ now (frames .exit) ≡ framed (now (frames .entry)) i node inside ⌝ }
 {
-    let node = row(frames, i, 0);
-    let inside = row(frames, i, 1);
-    let value = row(frames, i, 2);
-    let code = row(frames, i, 3);
-    Frame {
-        node: node as usize,
-        inside,
-        value,
-        code,
+    if i < frames.len() / 4 {
+        frames[4 * i] = node;
+        frames[4 * i + 1] = inside;
+        frames[4 * i + 2] = 0;
+        frames[4 * i + 3] = 0;
     }
 }
 
-// The frame stands at the place from now on; past the end nothing changes.
-pub fn put_frame(frames: &mut [u64], i: usize, frame: Frame)
-    ensures { λ r. ⌜ now (frames .exit) ≡ framed (now (frames .entry)) i frame ⌝ }
+// Frame i keeps the value of its node's first part from now on.
+pub fn keep(frames: &mut [u64], i: usize, value: u64, code: u64)
+    ensures { λ r. ⌜ now (frames .exit) ≡ kept (now (frames .entry)) i value code ⌝ }
 {
-    if i < frames.len() {
-        put(frames, 4 * i, frame.node as u64);
-        put(frames, 4 * i + 1, frame.inside);
-        put(frames, 4 * i + 2, frame.value);
-        put(frames, 4 * i + 3, frame.code);
+    if i < frames.len() / 4 {
+        frames[4 * i + 2] = value;
+        frames[4 * i + 3] = code;
     }
-}
-
-// The bound value at a place.
-pub fn bound_at(bound: &[u64], i: usize) -> Cell
-    ensures { λ r. ⌜ r ≡ boundAt (now (bound .entry)) i ⌝ }
-{
-    let value = half(bound, i, 0);
-    let code = half(bound, i, 1);
-    Cell {
-        value,
-        kind: unpack(code),
-    }
-}
-
-// The value stands at the place from now on; past the end nothing changes.
-pub fn put_bound(bound: &mut [u64], i: usize, cell: Cell)
-    ensures { λ r. ⌜ now (bound .exit) ≡ bounded (now (bound .entry)) i cell ⌝ }
-{
-    let kind = cell.kind;
-    let code = pack(kind);
-    if i < bound.len() {
-        put(bound, 2 * i, cell.value);
-        put(bound, 2 * i + 1, code);
-    }
-}
-
-// How many fields a struct has.
-pub fn field_count(structs: &[u64], of: u8) -> u64
-    ensures { λ r. ⌜ r ≡ fieldCount (now (structs .entry)) of ⌝ }
-{
-    word(structs, 17 * wide(of))
-}
-
-// The word type number of a struct's field.
-pub fn field_type(structs: &[u64], of: u8, f: usize) -> u64
-    ensures { λ r. ⌜ r ≡ fieldType (now (structs .entry)) of f ⌝ }
-{
-    if f < structs.len() {
-        word(structs, 17 * wide(of) + 1 + f)
-    } else {
-        0
-    }
-}
-
-// Number j of the two of a bound value.
-fn half(bound: &[u64], i: usize, j: usize) -> u64
-    requires { ⌜ j < 2 ⌝ }
-    ensures { λ r. ⌜ r ≡ getD (now (bound .entry)) (2 * i + j) 0 ⌝ }
-{
-    if i < bound.len() {
-        word(bound, 2 * i + j)
-    } else {
-        0
-    }
-}
-
-pub fn wide(x: u8) -> usize
-    ensures { λ r. ⌜ (r ≡ x) × (r < 256) ⌝ }
-{
-    x as usize
 }

@@ -1,0 +1,195 @@
+// The state after a transition, and how a run ends.
+ghost use Prim.Native.Nat.{_-_, _<_, _^_};
+ghost use mathlib.Core.Path.{_≡_};
+ghost use Rattle.machine.specs.States as states;
+use crate::Redex;
+use crate::Room;
+use crate::State;
+use crate::Turn;
+use calculus::End;
+use calculus::Outcome;
+use cells::Cell;
+use cells::unpack;
+
+// Another focus.
+pub fn focused(s: State, at: u64, code: u64) -> State
+    ensures { λ r. ⌜ r ≡ states.focused s at code ⌝ }
+{
+    let room = s.room;
+    State {
+        at,
+        code,
+        height: s.height,
+        lets: s.lets,
+        inside: s.inside,
+        steps: s.steps,
+        first: s.first,
+        room,
+    }
+}
+
+// Another height, and whether the node there lies inside an unchecked block.
+pub fn at_height(s: State, height: usize, inside: u64) -> State
+    ensures { λ r. ⌜ r ≡ states.atHeight s height inside ⌝ }
+{
+    let room = s.room;
+    State {
+        at: s.at,
+        code: s.code,
+        height,
+        lets: s.lets,
+        inside,
+        steps: s.steps,
+        first: s.first,
+        room,
+    }
+}
+
+// Another count of bound values.
+pub fn with_lets(s: State, lets: usize) -> State
+    ensures { λ r. ⌜ r ≡ states.withLets s lets ⌝ }
+{
+    let room = s.room;
+    State {
+        at: s.at,
+        code: s.code,
+        height: s.height,
+        lets,
+        inside: s.inside,
+        steps: s.steps,
+        first: s.first,
+        room,
+    }
+}
+
+// Another place for malloc to start to look.
+pub fn with_room(s: State, size: usize, from: usize) -> State
+    ensures { λ r. ⌜ r ≡ states.withRoom s size from ⌝ }
+{
+    State {
+        at: s.at,
+        code: s.code,
+        height: s.height,
+        lets: s.lets,
+        inside: s.inside,
+        steps: s.steps,
+        first: s.first,
+        room: Room { size, from },
+    }
+}
+
+// One step more.
+pub fn stepped(s: State) -> State
+    requires { ⌜ s .steps < 2 ^ 63 ⌝ }
+    ensures { λ r. ⌜ r ≡ states.stepped s ⌝ }
+{
+    let room = s.room;
+    let steps = s.steps + 1;
+    State {
+        at: s.at,
+        code: s.code,
+        height: s.height,
+        lets: s.lets,
+        inside: s.inside,
+        steps,
+        first: first(s),
+        room,
+    }
+}
+
+// The number of the first unchecked step, where the next one is counted too.
+fn first(s: State) -> u64
+    requires { ⌜ s .steps < 2 ^ 63 ⌝ }
+    ensures { λ r. ⌜ r ≡ states.firstIn s ⌝ }
+{
+    if s.first == 0 {
+        if s.inside == 0 { 0 } else { s.steps + 1 }
+    } else {
+        s.first
+    }
+}
+
+// What the redex gives is in focus, a step later.
+pub fn contracted(s: State, limit: u64, redex: Redex) -> Turn
+    requires { ⌜ s .steps < 2 ^ 63 ⌝ }
+    ensures { λ r. ⌜ r ≡ states.contracted limit s redex ⌝ }
+{
+    match redex {
+        Redex::Gives { value, code } => step(focused(s, value, code), limit),
+        Redex::Null => halt(s, limit, End::Null),
+        Redex::Bounds => halt(s, limit, End::Bounds),
+        Redex::Blocked => stuck(s),
+    }
+}
+
+// A step, or More where the limit forbids it.
+fn step(s: State, limit: u64) -> Turn
+    requires { ⌜ s .steps < 2 ^ 63 ⌝ }
+    ensures { λ r. ⌜ r ≡ states.step limit s ⌝ }
+{
+    if limit <= s.steps {
+        more(s)
+    } else {
+        Turn::Goes(stepped(s))
+    }
+}
+
+// The whole expression is this value.
+pub fn done(s: State) -> Turn
+    ensures { λ r. ⌜ r ≡ states.done s ⌝ }
+{
+    Turn::Ends(Outcome {
+        end: End::Value(Cell {
+            value: s.at,
+            kind: unpack(s.code),
+        }),
+        steps: s.steps,
+        first: s.first,
+    })
+}
+
+// "Being Stuck is not" a step, and is told at the limit.
+pub fn stuck(s: State) -> Turn
+    requires { ⌜ s .steps < 2 ^ 63 ⌝ }
+    ensures { λ r. ⌜ r ≡ states.stuck s ⌝ }
+{
+    Turn::Ends(Outcome {
+        end: End::Stuck,
+        steps: s.steps,
+        first: first(s),
+    })
+}
+
+// "A halt is itself a step."
+pub fn halt(s: State, limit: u64, end: End) -> Turn
+    requires { ⌜ s .steps < 2 ^ 63 ⌝ }
+    ensures { λ r. ⌜ r ≡ states.halt limit s end ⌝ }
+{
+    if limit <= s.steps {
+        return more(s);
+    }
+    let steps = s.steps + 1;
+    Turn::Ends(Outcome {
+        end,
+        steps,
+        first: first(s),
+    })
+}
+
+// The limit forbids the next step.
+pub fn more(s: State) -> Turn
+    ensures { λ r. ⌜ r ≡ states.more s ⌝ }
+{
+    Turn::Ends(Outcome {
+        end: End::More,
+        steps: s.steps,
+        first: s.first,
+    })
+}
+
+// One less, not below 0.
+pub fn before(n: usize) -> usize
+    ensures { λ r. ⌜ r ≡ n - 1 ⌝ }
+{
+    if n == 0 { 0 } else { n - 1 }
+}
