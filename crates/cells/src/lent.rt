@@ -37,22 +37,21 @@ pub fn heap_words(heap: &[u64]) -> usize
 pub fn cell_at(heap: &[u64], address: usize) -> HeapWord
     ensures { λ r. ⌜ r ≡ wordAt (now (heap .entry)) address ⌝ }
 {
-    let value = number_at(heap, address, 0);
-    as_word(value, number_at(heap, address, 1))
+    as_word(value_at(heap, address), code_at(heap, address))
 }
 
-// Number j of the word at an address, its value or its kind's code: 0 where there is no such word.
-pub fn number_at(heap: &[u64], address: usize, j: usize) -> u64
-    requires { ⌜ j < 2 ⌝ }
-    ensures { λ r. ⌜ r ≡ numberAt (now (heap .entry)) address j ⌝ }
+// The value of the word at an address, 0 where there is no such word.
+pub fn value_at(heap: &[u64], address: usize) -> u64
+    ensures { λ r. ⌜ r ≡ numberAt (now (heap .entry)) address 0 ⌝ }
 {
-    // Address 0 wraps to the highest number, and no heap is that long.
-    let place = std::num::wrapping_sub_usize(address, 1);
-    if place < heap.len() / 2 {
-        heap[2 * place + j]
-    } else {
-        0
-    }
+    number_at(heap, address, 0)
+}
+
+// The code of its kind, 0 if it is undefined.
+pub fn code_at(heap: &[u64], address: usize) -> u64
+    ensures { λ r. ⌜ r ≡ numberAt (now (heap .entry)) address 1 ⌝ }
+{
+    number_at(heap, address, 1)
 }
 
 // The word at an address holds the cell from now on; where there is no such word nothing changes.
@@ -111,7 +110,21 @@ pub fn lowest_run(heap: &[u64], k: usize, low: usize, high: usize) -> Run
 fn is_undefined(heap: &[u64], address: usize) -> bool
     ensures { λ r. ⌜ r ≡ undefined (wordAt (now (heap .entry)) address) ⌝ }
 {
-    number_at(heap, address, 1) == 0
+    code_at(heap, address) == 0
+}
+
+// Number j of the word at an address: 0 where there is no such word.
+fn number_at(heap: &[u64], address: usize, j: usize) -> u64
+    requires { ⌜ j < 2 ⌝ }
+    ensures { λ r. ⌜ r ≡ numberAt (now (heap .entry)) address j ⌝ }
+{
+    // Address 0 wraps to the highest number, and no heap is that long.
+    let place = std::num::wrapping_sub_usize(address, 1);
+    if place < heap.len() / 2 {
+        heap[2 * place + j]
+    } else {
+        0
+    }
 }
 
 fn lesser(a: usize, b: usize) -> usize

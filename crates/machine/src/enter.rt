@@ -11,7 +11,8 @@ use crate::states::focused;
 use crate::states::stuck;
 use crate::tables::put_frame;
 use crate::tables::row;
-use cells::number_at;
+use cells::code_at;
+use cells::value_at;
 
 pub fn enter(
     heap: &mut [u64],
@@ -46,8 +47,8 @@ fn variable(bound: &[u64], s: State, out: usize) -> Turn
     if lets <= out {
         return stuck(s);
     }
-    let value = number_at(bound, lets - out, 0);
-    let code = number_at(bound, lets - out, 1);
+    let value = value_at(bound, lets - out);
+    let code = code_at(bound, lets - out);
     Turn::Goes(focused(s, value, code))
 }
 

@@ -15,8 +15,9 @@ use crate::states::more;
 use crate::states::stepped;
 use crate::states::stuck;
 use calculus::End;
-use cells::number_at;
+use cells::code_at;
 use cells::put_word;
+use cells::value_at;
 use cells::word;
 
 // Read at a pointer.
@@ -39,12 +40,12 @@ fn held(heap: &[u64], words: usize, address: usize) -> Redex
     if words < address {
         return Redex::Blocked;
     }
-    let code = number_at(heap, address, 1);
+    let code = code_at(heap, address);
     if code == 0 {
         return Redex::Blocked;
     }
     Redex::Gives {
-        value: number_at(heap, address, 0),
+        value: value_at(heap, address),
         code,
     }
 }

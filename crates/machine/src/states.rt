@@ -138,11 +138,12 @@ fn step(s: State, limit: u64) -> Turn
 pub fn done(s: State) -> Turn
     ensures { λ r. ⌜ r ≡ states.done s ⌝ }
 {
+    let cell = Cell {
+        value: s.at,
+        kind: unpack(s.code),
+    };
     Turn::Ends(Outcome {
-        end: End::Value(Cell {
-            value: s.at,
-            kind: unpack(s.code),
-        }),
+        end: End::Value(cell),
         steps: s.steps,
         first: s.first,
     })
@@ -168,11 +169,11 @@ pub fn halt(s: State, limit: u64, end: End) -> Turn
     if limit <= s.steps {
         return more(s);
     }
-    let steps = s.steps + 1;
+    let taken = stepped(s);
     Turn::Ends(Outcome {
         end,
-        steps,
-        first: first(s),
+        steps: taken.steps,
+        first: taken.first,
     })
 }
 

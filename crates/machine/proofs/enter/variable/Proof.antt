@@ -12,24 +12,24 @@ returns : tie.Need-returns
 unfolding variableAt
 returns c = rw (le-leb _ _ (c .before .if1 .taken), c .stuck .ensures)
 
-sub-number-at : tie.Need-sub-number-at
-sub-number-at c = search needs
+sub-value-at : tie.Need-sub-value-at
+sub-value-at c = search needs
 
-number-at-requires : tie.Need-number-at-requires
-number-at-requires c κs = search needs
+value-at-requires : tie.Need-value-at-requires
+value-at-requires c κs = search needs
 
-sub-number-at-2 : tie.Need-sub-number-at-2
-sub-number-at-2 c = search needs
+sub-code-at : tie.Need-sub-code-at
+sub-code-at c = search needs
 
-number-at-requires-2 : tie.Need-number-at-requires-2
-number-at-requires-2 c κs = search needs
+code-at-requires : tie.Need-code-at-requires
+code-at-requires c κs = search needs
 
 focused-requires : tie.Need-focused-requires
 focused-requires c κs = search needs
 
 returns-2 : tie.Need-returns-2
 unfolding variableAt
-returns-2 c = rw (lt-leb _ _ (c .before .before .before .if1 .left), c .focused .ensures, c .before .before .number-at .ensures, c .before .number-at2 .ensures)
+returns-2 c = rw (lt-leb _ _ (c .before .before .before .if1 .left), c .focused .ensures, c .before .before .value-at .ensures, c .before .code-at .ensures)
 
 pub variable-spec : {M : Type 1} → statement M
 variable-spec =
@@ -37,9 +37,9 @@ variable-spec =
     (tie.spec
     stuck-requires
     returns
-    sub-number-at
-    number-at-requires
-    sub-number-at-2
-    number-at-requires-2
+    sub-value-at
+    value-at-requires
+    sub-code-at
+    code-at-requires
     focused-requires
     returns-2)

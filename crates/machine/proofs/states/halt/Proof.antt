@@ -10,14 +10,11 @@ more-requires c κs = search needs
 returns : tie.Need-returns
 returns c = rw (le-leb _ _ (c .before .if1 .taken), c .more .ensures)
 
-add-steps : tie.Need-add-steps
-add-steps c = search needs
-
-first-requires : tie.Need-first-requires
-first-requires c κs = search needs
+stepped-requires : tie.Need-stepped-requires
+stepped-requires c κs = search needs
 
 returns-2 : tie.Need-returns-2
-returns-2 c = rw (lt-leb _ _ (c .before .before .if1 .left), c .first .ensures)
+returns-2 c = rw (lt-leb _ _ (c .before .if1 .left), c .stepped .ensures)
 
 pub halt-spec : {M : Type 1} → statement M
-halt-spec = tie.close (tie.spec more-requires returns add-steps first-requires returns-2)
+halt-spec = tie.close (tie.spec more-requires returns stepped-requires returns-2)
