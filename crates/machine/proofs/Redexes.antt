@@ -22,7 +22,7 @@ use Rattle.cells.specs.declared.HeapWord.{HeapWord}
 use Rattle.cells.specs.declared.HeapWord.the-variants.{Undefined, Holds}
 use Rattle.cells.proofs.Codes.{packed-not-zero}
 use Rattle.cells.proofs.Heaps.{length-update, small-update, undefined-update}
-use Rattle.cells.proofs.View.{value-lent, code-lent, stored-lent, lowest-lent}
+use Rattle.cells.proofs.View.{word-lent, stored-lent, lowest-lent}
 use Rattle.cells.proofs.Free.{Vacant, Lowest, lowest-from, vacant-before}
 use Rattle.calculus.specs.Setting.{cell, size, wordKind, isChecked, checkedPointer, checkedEmpty}
 use Rattle.calculus.specs.Steps.{null, bounds, blocked, halts, gives, fallen, checkedArray, definedThen, wordThen, sumRedex, fieldRedex, zeroed}
@@ -33,7 +33,7 @@ use Rattle.machine.specs.declared.Redex.{Redex}
 use Rattle.machine.specs.declared.Redex.the-variants.{Gives, Null, Bounds, Blocked}
 use Rattle.machine.specs.declared.Room.{Room}
 use Rattle.machine.specs.States.{room}
-use Rattle.machine.specs.Rules.{heldRedex, readRedex, sumRule, fieldCount, fieldType, structField, fieldRule}
+use Rattle.machine.specs.Rules.{heldOf, heldRedex, readRedex, sumRule, fieldCount, fieldType, structField, fieldRule}
 use Rattle.machine.specs.Malloc.{sizeIn, typeIn, zeros, startAt}
 
 -- ---- the parts of a code
@@ -187,11 +187,6 @@ pub record Loaded (t : Tables) (words : ℕ) (ws structs types : List ℕ) : Typ
   pub heap-room : 2 * words ≤ length ws
   pub words-few : words ≤ 4096
 
--- what a word gives
-abbrev pub heldOf : HeapWord → Redex
-heldOf Undefined = Blocked
-heldOf (Holds c) = Gives (c .value) (packed (c .kind))
-
 -- ---- words are never freed: no run of a room's size, or of more, starts below it
 pub record Hint (H : Heap) (r : Room) : Type 0 where
   pub low : 1 ≤ r .from
@@ -284,24 +279,8 @@ module _ {t : Tables} {words : ℕ} {ws structs types : List ℕ} (L : Loaded t 
     unfolding heldRedex
     held-same a = go (decLe a words)
       where
-        word : (w : HeapWord) → look H a ≡ w → a ≤ words → heldRedex (lent H ws) words a ≡ heldOf w
-        word Undefined e l =
-            rw (
-              le-ltb words a l,
-              code-lent H ws a (omega arith) (omega (arith, L .heap-room)),
-              e,
-            )
-        word (Holds c) e l =
-            rw (
-              le-ltb words a l,
-              code-lent H ws a (omega arith) (omega (arith, L .heap-room)),
-              value-lent H ws a (omega arith) (omega (arith, L .heap-room)),
-              e,
-              ne-eqb (packed (c .kind)) 0 (packed-not-zero (c .kind)),
-            )
-
         go : Dec (a ≤ words) → heldRedex (lent H ws) words a ≡ heldOf (look H a)
-        go (yes l) = word (look H a) refl l
+        go (yes l) = rw (le-ltb words a l, word-lent H ws a s (omega arith))
         go (no n) = rw (lt-ltb words a (omega arith), look-past H a (omega arith))
 
     pub read-acts : (v : ℕ) (κ : Kind) → Small κ

@@ -44,7 +44,7 @@ use Rattle.machine.specs.declared.Turn.the-variants as turns
 use Rattle.machine.specs.States.{Made, Moved, made, moved, onHeap, state, outcome, firstOf, stepped, focused, withRoom, more, contracted}
 use Rattle.machine.specs.States as states
 use Rattle.machine.specs.Tables.{rowAt, framed, kept}
-use Rattle.machine.specs.Rules.{written, assignedBy, assigned, sumRule}
+use Rattle.machine.specs.Rules.{heldOf, written, assignedBy, assigned, sumRule}
 use Rattle.machine.specs.Malloc.{takenFrom, takenRun, roomFor, roomAt}
 use Rattle.machine.specs.Enter.{withinBlock, variableAt, firstPart, entered}
 use Rattle.machine.specs.Resume.{secondPart, binding, oneRule, afterFirst, afterSecond, resumed, handing}
@@ -53,7 +53,7 @@ use Rattle.machine.proofs.Memory.{row-whole, Four, framed-below, kept-b
 use Rattle.machine.proofs.Context.{Hole, plugs, under, context, busy-stuck, busy-halt, busy-next}
 use Rattle.machine.proofs.Fill.{fill, fill-more, fill-bound}
 use Rattle.machine.proofs.Stack.{small-node, small-part, ticks, Waits, Stack, bottom, on-one, on-bound, on-left, on-right, on-body, Env, one-let, stack-kept, env-kept, lets-few, env-at, env-small}
-use Rattle.machine.proofs.Redexes.{Acts, a-blocked, a-null, a-bounds, a-gives, Loaded, Hint, hint-update, heldOf, within, sum-acts, field-acts, read-acts, read-tests, size-same, zeros-same, found-same, hint-taken}
+use Rattle.machine.proofs.Redexes.{Acts, a-blocked, a-null, a-bounds, a-gives, Loaded, Hint, hint-update, within, sum-acts, field-acts, read-acts, read-tests, size-same, zeros-same, found-same, hint-taken}
 
 -- Sim table R at code height lets inside frames bound e left: a machine in such a state holds the expression e, with at most `left`
 -- transitions to a value. There is room for R frames.
@@ -119,7 +119,7 @@ module _ {t : Tables} {words : ℕ} {ws structs types : List ℕ} (L : Loaded t 
     assign-does : (s : State) (c d : Cell) → s .at ≡ d .value → s .code ≡ packed (d .kind) → Hint H (s .room) → Small (c .kind) → Small (d .kind)
         → Does s (assigned words limit (lent H ws) s (c .value) (packed (c .kind)))
         (wordThen H (c .value) (c .kind) (λ _. gives (update H (c .value) d) (d .value) (d .kind)))
-    unfolding assigned written wordThen stored
+    unfolding assigned written wordThen
     assign-does s c d ea ec k kc kd =
         rw (read-tests L H hs hl (c .value) (c .kind) kc)
         (go (both (checkedPointer (c .kind)) (eqb (c .value) 0)) (checkedEmpty (c .kind)) (look H (c .value)) refl)
@@ -136,7 +136,7 @@ module _ {t : Tables} {words : ℕ} {ws structs types : List ℕ} (L : Loaded t 
             {c = d}
             {r = s .room}
             (λ l. rw (le-leb limit (s .steps) l))
-            (λ l. rw (lt-leb limit (s .steps) l, ea, ec, es))
+            (λ l. rw (lt-leb limit (s .steps) l, ea, ec, round-trip kd, es))
             (small-update H (c .value) d hs kd)
             (length-update H (c .value) d)
             (hint-update (c .value) d k)

@@ -5,8 +5,11 @@ use Prim.Native.Nat.{ℕ, _+_, _-_, _*_, _/_, _%_, _^_}
 use lib.Dec.{eqb, leb, ltb}
 use lib.ListN.{getD}
 use Rattle.choice.specs.Choice.{choose, both}
-use Rattle.cells.specs.Code.{numberIn}
-use Rattle.cells.specs.Lent.{numberAt, putWord}
+use Rattle.cells.specs.Code.{numberIn, packed, unpacked}
+use Rattle.cells.specs.Lent.{wordAt, stored}
+use Rattle.cells.specs.declared.HeapWord.{HeapWord}
+use Rattle.cells.specs.declared.HeapWord.the-variants.{Undefined, Holds}
+use Rattle.calculus.specs.Setting.{cell}
 use Rattle.calculus.specs.declared.End.the-variants as ends
 use Rattle.machine.specs.declared.State.{State}
 use Rattle.machine.specs.declared.Redex.{Redex}
@@ -14,11 +17,14 @@ use Rattle.machine.specs.declared.Redex.the-variants.{Gives, Null, Bound
 use Rattle.machine.specs.declared.Turn.the-variants.{Goes}
 use Rattle.machine.specs.States.{Made, made, more, stuck, halt, stepped}
 
+abbrev pub heldOf : HeapWord → Redex
+heldOf Undefined = Blocked
+heldOf (Holds c) = Gives (c .value) (packed (c .kind))
+
 -- what the word at an address holds: what is lent behind the heap's words is not looked at
 unfoldable pub heldRedex : List ℕ → (words a : ℕ) → Redex
 heldRedex ws words a =
-    choose (ltb words a) (λ _. Blocked) λ _.
-    choose (eqb (numberAt ws a 1) 0) (λ _. Blocked) (λ _. Gives (numberAt ws a 0) (numberAt ws a 1))
+    choose (ltb words a) (λ _. Blocked) (λ _. heldOf (wordAt ws a))
 
 -- a read: "a checked pointer with v = 0 halts with Null; then a checked pointer to an array of 0 halts with Bounds"
 unfoldable pub readRedex : List ℕ → (words v code : ℕ) → Redex
@@ -29,7 +35,7 @@ readRedex ws words v code =
 -- an assign of the value in focus: where a read gives a value
 unfoldable pub written : (limit : ℕ) → List ℕ → State → (a : ℕ) → Made
 written limit ws s a =
-    choose (leb limit (s .steps)) (λ _. made (more s) ws) (λ _. made (Goes (stepped s)) (putWord ws a (s .at) (s .code)))
+    choose (leb limit (s .steps)) (λ _. made (more s) ws) (λ _. made (Goes (stepped s)) (stored ws a (cell (s .at) (unpacked (s .code)))))
 
 abbrev pub assignedBy : Redex → (limit : ℕ) → List ℕ → State → (a : ℕ) → Made
 assignedBy (Gives value code) limit ws s a = written limit ws s a

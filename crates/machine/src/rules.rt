@@ -15,9 +15,12 @@ use crate::states::more;
 use crate::states::stepped;
 use crate::states::stuck;
 use calculus::End;
-use cells::code_at;
-use cells::put_word;
-use cells::value_at;
+use cells::Cell;
+use cells::HeapWord;
+use cells::cell_at;
+use cells::pack;
+use cells::store;
+use cells::unpack;
 use cells::word;
 
 // Read at a pointer.
@@ -40,13 +43,15 @@ fn held(heap: &[u64], words: usize, address: usize) -> Redex
     if words < address {
         return Redex::Blocked;
     }
-    let code = code_at(heap, address);
-    if code == 0 {
-        return Redex::Blocked;
-    }
-    Redex::Gives {
-        value: value_at(heap, address),
-        code,
+    match cell_at(heap, address) {
+        HeapWord::Undefined => Redex::Blocked,
+        HeapWord::Holds(cell) => {
+            let kind = cell.kind;
+            Redex::Gives {
+                value: cell.value,
+                code: pack(kind),
+            }
+        }
     }
 }
 
@@ -71,7 +76,14 @@ fn write(heap: &mut [u64], limit: u64, s: State, address: usize) -> Turn
     if limit <= s.steps {
         return more(s);
     }
-    put_word(heap, address, s.at, s.code);
+    store(
+        heap,
+        address,
+        Cell {
+            value: s.at,
+            kind: unpack(s.code),
+        },
+    );
     Turn::Goes(stepped(s))
 }
 

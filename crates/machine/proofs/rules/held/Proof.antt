@@ -1,5 +1,5 @@
 -- `machine::rules::held` gives what a word holds. Assumes nothing.
-use borrow.Author.Tests.{lt-ltb, le-ltb, eq-eqb, ne-eqb}
+use borrow.Author.Tests.{lt-ltb, le-ltb}
 use Rattle.machine.specs.Rules.{heldRedex}
 use borrow.Author.Needs.{needs}
 use Rattle.machine.proofs.rules.held.Statement.{statement}
@@ -9,19 +9,27 @@ returns : tie.Need-returns
 unfolding heldRedex
 returns c = rw (lt-ltb _ _ (c .if1 .taken))
 
-code-at-requires : tie.Need-code-at-requires
-code-at-requires c κs = search needs
+cell-at-requires : tie.Need-cell-at-requires
+cell-at-requires c κs = search needs
+
+enum-told : tie.Need-enum-told
+enum-told c = search needs
+
+enum-known-cell : tie.Need-enum-known-cell
+enum-known-cell c = search needs
+
+pack-requires : tie.Need-pack-requires
+pack-requires c κs = search needs
 
 returns-2 : tie.Need-returns-2
 unfolding heldRedex
-returns-2 c = rw (le-ltb _ _ (c .before .before .if1 .left), ← c .before .code-at .ensures, eq-eqb _ _ (c .if2 .taken))
-
-value-at-requires : tie.Need-value-at-requires
-value-at-requires c κs = search needs
+returns-2 c = rw (le-ltb _ _ (c .before .before .before .if1 .left), ← c .before .before .cell-at .ensures, c .enum-told .given .1)
 
 returns-3 : tie.Need-returns-3
 unfolding heldRedex
-returns-3 c = rw (le-ltb _ _ (c .before .before .before .if1 .left), ← c .before .before .code-at .ensures, ne-eqb _ _ (c .before .if2 .left), ← c .value-at .ensures)
+returns-3 c = rw (le-ltb _ _ (c .before .before .before .before .before .if1 .left), ← c .before .before .before .before .cell-at .ensures, c .before .before .cell .given .1, ← c .pack .ensures)
 
 pub held-spec : {M : Type 1} → statement M
-held-spec = tie.close (tie.spec returns code-at-requires returns-2 value-at-requires returns-3)
+held-spec =
+    tie.close
+    (tie.spec returns cell-at-requires enum-told enum-known-cell pack-requires returns-2 returns-3)

@@ -12,8 +12,11 @@ returns : tie.Need-returns
 unfolding written
 returns c = rw (le-leb _ _ (c .before .if1 .taken), c .more .ensures)
 
-put-word-requires : tie.Need-put-word-requires
-put-word-requires c κs = search needs
+unpack-requires : tie.Need-unpack-requires
+unpack-requires c κs = search needs
+
+store-requires : tie.Need-store-requires
+store-requires c κs = search needs
 
 stepped-requires : tie.Need-stepped-requires
 stepped-requires c κs = search needs
@@ -23,9 +26,16 @@ same-length c = search needs
 
 returns-2 : tie.Need-returns-2
 unfolding written
-returns-2 c = rw (lt-leb _ _ (c .before .before .before .before .before .if1 .left), c .before .before .before .put-word .ensures, c .stepped .ensures)
+returns-2 c = rw (lt-leb _ _ (c .before .before .before .before .before .before .if1 .left), ← c .before .before .before .before .unpack .ensures, c .before .before .before .store .ensures, c .stepped .ensures)
 
 pub write-spec : {M : Type 1} → statement M
 write-spec =
     tie.close
-    (tie.spec more-requires returns put-word-requires stepped-requires same-length returns-2)
+    (tie.spec
+    more-requires
+    returns
+    unpack-requires
+    store-requires
+    stepped-requires
+    same-length
+    returns-2)
