@@ -8,7 +8,7 @@ use lib.Dec.{ltb}
 use lib.ListN.{length, getD, set, length-set, List·getD-eq-default}
 use lib.Seq.{getD-set-same, getD-set-other}
 use borrow.Author.Tests.{lt-ltb, le-ltb}
-use Rattle.choice.specs.Choice.{choose, choose-case}
+use Rattle.choice.specs.Choice.{choose-case}
 use Rattle.cells.specs.Lent.{numberAt, putWord}
 use Rattle.machine.specs.Tables.{rowAt, framed, kept}
 

@@ -1,5 +1,5 @@
 -- The rules on codes are the definition's rules on the kinds that have them, rule by rule; and what the machine holds of the heap.
-use mathlib.Core.Path.{_≡_, refl, sym, _∙_, ap}
+use mathlib.Core.Path.{_≡_, refl, _∙_}
 use mathlib.Core.Bool.{Bool, true, false}
 use mathlib.Core.List.{List, [], _∷_, map}
 use Prim.Native.Nat.{ℕ, zero, suc, _+_, _*_, _-_, _/_, _%_, _^_, _≤_, _<_}
@@ -7,12 +7,12 @@ use native.Mathlib.Omega.{arith}
 use native.Mathlib.Decide.{decLe, decLt}
 use lib.Dec.{eqb, leb, ltb}
 use lib.ListN.{length, getD, List·getD-eq-default}
-use borrow.Author.Tests.{le-leb, lt-leb, lt-ltb, le-ltb, eq-eqb, ne-eqb}
+use borrow.Author.Tests.{le-leb, lt-leb, lt-ltb, le-ltb, ne-eqb}
 use Rattle.choice.specs.Choice.{choose, both}
 use Rattle.cells.specs.Code.{modeNumber, packed, Small, small-int, small-word, small-struct, small-array}
 use Rattle.cells.specs.Heap.{Heap, look, update, undefined, SmallWord, small-held, SmallHeap}
 use Rattle.cells.specs.Free.{lowestIn}
-use Rattle.cells.specs.Lent.{lent, stored, putWord, lowestRun}
+use Rattle.cells.specs.Lent.{lent, stored, lowestRun}
 use Rattle.cells.specs.declared.Mode.{Mode}
 use Rattle.cells.specs.declared.Mode.the-variants.{Checked, Unchecked}
 use Rattle.cells.specs.declared.Kind.{Kind}

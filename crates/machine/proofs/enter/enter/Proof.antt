@@ -1,5 +1,5 @@
 -- `machine::enter::enter` is the transition at a node. Assumes nothing.
-use mathlib.Core.Path.{sym, _∙_}
+use mathlib.Core.Path.{_∙_}
 use native.Mathlib.Omega.{arith}
 use borrow.Author.Tests.{ne-eqb}
 use Rattle.machine.specs.Enter.{entered}
