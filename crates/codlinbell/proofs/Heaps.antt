@@ -6,10 +6,9 @@ use native.Mathlib.Nat.{add-zero}
 use native.Mathlib.Omega.{arith}
 use lib.ListN.{length, drop, getD, replicate, length-replicate}
 use lib.Seq.{getD-drop, drop-drop}
-use Rattle.cells.specs.Code.{Small, packed, unpacked}
+use Rattle.cells.specs.Code.{packed}
 use Rattle.cells.specs.Heap.{Heap, update, SmallHeap}
 use Rattle.cells.specs.Lent.{lent, stored, cleared}
-use Rattle.cells.proofs.Codes.{round-trip}
 use Rattle.cells.proofs.Heaps.{length-update, small-empty, small-update}
 use Rattle.cells.proofs.View.{stored-lent, cleared-lent}
 use Rattle.cells.specs.declared.Kind.{Kind}
@@ -51,10 +50,10 @@ rows-behind rows j a v k xs e =
     rw n (sym (drop-drop 3 (3 * j) rows) ∙ ap (λ (l : List ℕ). drop 3 l) e)
 
 -- Row j is stored, and then the rest.
-row-stored : (rows ws ws′ : List ℕ) (n j a v : ℕ) {κ : Kind} → Small κ → getD rows (3 * j) 0 ≡ a → getD rows (3 * j + 1) 0 ≡ v
+row-stored : (rows ws ws′ : List ℕ) (n j a v : ℕ) (κ : Kind) → getD rows (3 * j) 0 ≡ a → getD rows (3 * j + 1) 0 ≡ v
     → getD rows (3 * j + 2) 0 ≡ packed κ → stored ws a (cell v κ) ≡ ws′ → rowsStored rows (suc n) j ws ≡ rowsStored rows n (suc j) ws′
-unfolding rowsStored
-row-stored rows ws ws′ n j a v s ea ev ek e = rw (ea, ev, ek, round-trip s, e)
+unfolding rowsStored stored
+row-stored rows ws ws′ n j a v κ ea ev ek e = rw (ea, ev, ek, e)
 
 -- Storing the rows of cells, from row j on, over a lent heap places the cells.
 rows-lent : (rows : List ℕ) {words a : ℕ} {ps : List Placed} → Rising words a ps → (j : ℕ) (H : Heap) (ws : List ℕ) → drop (3 * j) rows ≡ cellRows ps
@@ -64,7 +63,7 @@ rows-lent rows none j H ws e l r = refl
 rows-lent rows (more {p = p} {ps = ps} h i s t) j H ws e l r =
     let xs : List ℕ = p .address ∷ p .held .value ∷ packed (p .held .kind) ∷ cellRows ps in
     let long : length (update H (p .address) (p .held)) ≡ length H = length-update H (p .address) (p .held) in
-    row-stored rows (lent H ws) (lent (update H (p .address) (p .held)) ws) (length ps) j (p .address) (p .held .value) s
+    row-stored rows (lent H ws) (lent (update H (p .address) (p .held)) ws) (length ps) j (p .address) (p .held .value) (p .held .kind)
     (rw add-zero at (row-at rows j 0 xs e)) (row-at rows j 1 xs e) (row-at rows j 2 xs e) (stored-lent H ws (p .address) (p .held) (omega arith) r)
     ∙ rows-lent rows t (suc j) (update H (p .address) (p .held)) ws (rows-behind rows j _ _ _ (cellRows ps) e) (omega arith) (omega arith)
 

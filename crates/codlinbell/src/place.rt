@@ -1,15 +1,11 @@
 // The heap of an accepted image: undefined but for the image's cells.
 ghost use mathlib.Core.Path.{_≡_};
-ghost use Rattle.cells.specs.Lent.{stored};
-ghost use Rattle.calculus.specs.Setting.{cell};
-ghost use Rattle.cells.specs.Code.{unpacked};
+ghost use Rattle.cells.specs.Lent.{putWord};
 ghost use Rattle.codlinbell.specs.Placing.{cellsStored};
-use cells::Cell;
-use cells::store;
-use cells::unpack;
+use cells::put_word;
 use cells::word;
 
-// Stores every row of the cell table: address, value, packed code of the kind.
+// Puts every row of the cell table into the heap: address, value, packed code of the kind.
 pub fn place_cells(heap: &mut [u64], rows: &[u64])
     ensures { λ r. ⌜ now (heap .exit) ≡ cellsStored (now (rows .entry)) (now (heap .entry)) ⌝ }
 {
@@ -29,8 +25,7 @@ pub fn place_cells(heap: &mut [u64], rows: &[u64])
 }
 
 fn place_row(heap: &mut [u64], address: u64, value: u64, code: u64)
-    ensures { λ r. ⌜ now (heap .exit) ≡ stored (now (heap .entry)) address (cell value (unpacked code)) ⌝ }
+    ensures { λ r. ⌜ now (heap .exit) ≡ putWord (now (heap .entry)) address value code ⌝ }
 {
-    let kind = unpack(code);
-    store(heap, address as usize, Cell { value, kind });
+    put_word(heap, address as usize, value, code);
 }

@@ -7,10 +7,7 @@ use native.Mathlib.Numerals.{add-one}
 use native.Mathlib.Omega.{arith}
 use lib.ListN.{length, getD, length-set}
 use borrow.Author.Needs.{needs}
-use Rattle.cells.specs.Code.{unpacked}
-use Rattle.cells.specs.Lent.{stored}
-use Rattle.cells.proofs.View.{length-stored}
-use Rattle.calculus.specs.Setting.{cell}
+use Rattle.cells.specs.Lent.{putWord}
 use Rattle.codlinbell.specs.Placing.{rowsStored}
 use Rattle.codlinbell.proofs.place.place_cells.Statement.{statement}
 use Rattle.codlinbell.proofs.place.place_cells.Tie as tie
@@ -33,7 +30,7 @@ is-suc n h = omega arith
 
 -- the next row
 turn : (rows heap heap′ : List ℕ) (left n j a v k : ℕ) → left ≡ suc n → a ≡ getD rows (3 * j) 0 → v ≡ getD rows (3 * j + 1) 0
-    → k ≡ getD rows (3 * j + 2) 0 → heap′ ≡ stored heap a (cell v (unpacked k)) → rowsStored rows left j heap ≡ rowsStored rows n (j + 1) heap′
+    → k ≡ getD rows (3 * j + 2) 0 → heap′ ≡ putWord heap a v k → rowsStored rows left j heap ≡ rowsStored rows n (j + 1) heap′
 unfolding rowsStored
 turn rows heap heap′ left n j a v k h ea ev ek e = rw (h, e, ea, ev, ek, add-one j)
 
