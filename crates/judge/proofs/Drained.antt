@@ -4,12 +4,13 @@ use mathlib.Core.Path.{_≡_, refl, subst, ap}
 use mathlib.Core.Logic.{_⊎_, inl, inr, ⊎-elim}
 use mathlib.Core.Bool.{Bool, true, false}
 use mathlib.Core.List.{List, []}
-use Prim.Native.Nat.{ℕ, zero, suc, _+_, _≤_, _<_}
+use Prim.Native.Nat.{ℕ, zero, suc, _+_, _%_, _≤_, _<_}
 use native.Mathlib.Decide.{ℕ-discrete, decLt}
 use native.Mathlib.Omega.{arith}
-use lib.Dec.{ltb}
+use lib.Dec.{eqb, ltb}
 use lib.ListN.{length, getD}
 use borrow.Author.Tests.{ltb-true, ltb-false}
+use Rattle.choice.specs.Choice.{choose}
 use Rattle.cells.specs.Code.{unpacked}
 use Rattle.cells.specs.Heap.{Heap, look}
 use Rattle.cells.specs.Lent.{valueIn}
@@ -21,7 +22,7 @@ use Rattle.calculus.specs.Literal.{WellLit, isBase, literalWell}
 use Rattle.calculus.proofs.Same.{holds, told, fails}
 use Rattle.calculus.proofs.Scope.{Good, good-base, good-words, Covers, Reach, itself, further, well-good, reach-well}
 use Rattle.calculus.proofs.Literals.{closed-test, test-well}
-use Rattle.judge.specs.Tables.{entryAt}
+use Rattle.judge.specs.Tables.{entryAt, sizeOf}
 use Rattle.judge.specs.Find.{entries}
 use Rattle.judge.specs.Marks.{Seen}
 use Rattle.judge.specs.Literals as model
@@ -29,7 +30,8 @@ use Rattle.judge.specs.Literals.{Looking, on, off, span, thenLook}
 use Rattle.judge.proofs.Room.{choose-told}
 use Rattle.judge.proofs.Tabled.{HoldsSetting, HoldsHeap, literalAt}
 use Rattle.judge.proofs.Shapes.{span-base, span-size}
-use Rattle.judge.proofs.Marked.{Marked, Roomy, Queued, queued-still, queued-from, Grown}
+use Rattle.judge.proofs.Marked.{Marked, Plain, Queued, queued-still, queued-from, Grown}
+use Rattle.judge.proofs.Reaches.{Fit}
 use Rattle.judge.proofs.Looks.{Needed, Closed, closed-still, Looks, looks-on, looks-off, right-kind, looks}
 
 module _ {S : Setting} {H : Heap} {structs types cells : List ℕ} (hs : HoldsSetting S structs types) (hh : HoldsHeap H cells) where
@@ -37,9 +39,23 @@ module _ {S : Setting} {H : Heap} {structs types cells : List ℕ} (hs : HoldsSe
   abbrev ClosedEntry : List ℕ → ℕ → Type 0
   ClosedEntry marks j = Closed structs types cells marks (entryAt cells j 1) (entryAt cells j 2)
 
+  -- a plain entry needs no words
+  plain-closed : {marks : List ℕ} (j : ℕ) → Plain cells j → ClosedEntry marks j
+  unfolding span
+  plain-closed j p =
+      record {
+        each = λ i l.
+            absurd
+            (let z : span structs (entryAt cells j 1) (entryAt cells j 2) ≡ 0 = needs-none (eqb (entryAt cells j 1) 0) in omega arith);
+      }
+    where
+      needs-none : (t : Bool) → choose t (λ _. 0) (λ _. choose (eqb (entryAt cells j 2 % 2) 0) (λ _. sizeOf structs (entryAt cells j 2)) (λ _. 0)) ≡ 0
+      needs-none true = refl
+      needs-none false = rw p
+
   -- every marked entry is closed
   pub record Settled (s : Seen) : Type 0 where
-    pub roomy : Roomy (entries cells) s
+    pub fit : Fit cells s
     pub each : (j : ℕ) → j < entries cells → Marked (s .marks) j → ClosedEntry (s .marks) j
 
   -- ---- drained: what is marked is well typed
@@ -109,7 +125,7 @@ module _ {S : Setting} {H : Heap} {structs types cells : List ℕ} (hs : HoldsSe
     Reached j = (j < entries cells) × Reach S H c₀ (literalAt cells j)
 
     record Waiting (head : ℕ) (s : Seen) : Type 0 where
-      roomy : Roomy (entries cells) s
+      fit : Fit cells s
       behind : head ≤ s .tail
       each : (j : ℕ) → j < entries cells → Marked (s .marks) j → ClosedEntry (s .marks) j ⊎ Queued s head j
       reached : (q : ℕ) → head ≤ q → q < s .tail → Reached (getD (s .queue) q 0)
@@ -131,15 +147,15 @@ module _ {S : Setting} {H : Heap} {structs types cells : List ℕ} (hs : HoldsSe
               }),
         )
 
-    more-waiting : {head : ℕ} {s s′ : Seen} → Waiting head s → Grown Reached s s′ → Roomy (entries cells) s′ → Waiting head s′
+    more-waiting : {head : ℕ} {s s′ : Seen} → Waiting head s → Grown cells Reached s s′ → Fit cells s′ → Waiting head s′
     more-waiting {head} {s} {s′} w g r =
         record {
-          roomy = r;
+          fit = r;
           behind = omega (arith, w .behind, g .tails);
           each = λ j b m.
               ⊎-elim
               (λ m′. ⊎-elim (λ c. inl (closed-still (g .still) c)) (λ q. inr (queued-still g q)) (w .each j b m′))
-              (λ q. inr (queued-from (w .behind) q))
+              (λ k. ⊎-elim (λ p. inl (plain-closed j p)) (λ q. inr (queued-from (w .behind) q)) k)
               (g .fresh j m);
           reached = λ q h k. early q h k (decLt q (s .tail));
         }
@@ -152,7 +168,7 @@ module _ {S : Setting} {H : Heap} {structs types cells : List ℕ} (hs : HoldsSe
     one-less : {head : ℕ} {s : Seen} → Waiting head s → head < s .tail → ClosedEntry (s .marks) (getD (s .queue) head 0) → Waiting (head + 1) s
     one-less {head} {s} w l c =
         record {
-          roomy = w .roomy;
+          fit = w .fit;
           behind = omega arith;
           each = λ j b m. ⊎-elim (λ d. inl d) (λ q. here j q (ℕ-discrete (q .at) head)) (w .each j b m);
           reached = λ q h k. w .reached q (omega arith) k;
@@ -164,7 +180,7 @@ module _ {S : Setting} {H : Heap} {structs types cells : List ℕ} (hs : HoldsSe
 
     none-waits : {head : ℕ} {s : Seen} → Waiting head s → s .tail ≤ head → Settled s
     none-waits w l =
-        record { roomy = w .roomy; each = λ j b m. ⊎-elim (λ d. d) (λ q. absurd (omega (arith, q .behind, q .before))) (w .each j b m) }
+        record { fit = w .fit; each = λ j b m. ⊎-elim (λ d. d) (λ q. absurd (omega (arith, q .behind, q .before))) (w .each j b m) }
 
     -- what draining comes to
     data Drains (s : Seen) : Looking → Type 0 where
@@ -173,12 +189,12 @@ module _ {S : Setting} {H : Heap} {structs types cells : List ℕ} (hs : HoldsSe
 
     -- a look that goes on, or one that is off at a reached literal
     data Steps (head : ℕ) (s : Seen) (v code : ℕ) : Looking → Type 0 where
-      steps-on : {s′ : Seen} → Waiting head s′ → Grown Reached s s′ → Closed structs types cells (s′ .marks) v code → Steps head s v code (on s′)
+      steps-on : {s′ : Seen} → Waiting head s′ → Grown cells Reached s s′ → Closed structs types cells (s′ .marks) v code → Steps head s v code (on s′)
       steps-off : {marks queue : List ℕ} → (WellLit S H [] (c₀ .value) (c₀ .kind) → ⊥) → Steps head s v code (off marks queue)
 
     steps : (head : ℕ) (s : Seen) (v code : ℕ) → Waiting head s → Reach S H c₀ (cell v (unpacked code))
         → Steps head s v code (model.look structs types cells v code s)
-    steps head s v code w r = go _ (looks hs hh s v code (w .roomy) (needed-reached v code r))
+    steps head s v code w r = go _ (looks hs hh s v code (w .fit) (needed-reached v code r))
       where
         go : (l : Looking) → Looks hs hh Reached s v code l → Steps head s v code l
         go (on s′) (looks-on g o c) = steps-on (more-waiting w g o) g c
@@ -186,7 +202,7 @@ module _ {S : Setting} {H : Heap} {structs types cells : List ℕ} (hs : HoldsSe
 
     drains : (deep head : ℕ) (s : Seen) → length (s .queue) ≤ head + deep → Waiting head s → Drains s (model.drain structs types cells deep head s)
     unfolding model.drain
-    drains zero head s l w = drains-on (none-waits w (omega (arith, w .roomy .room))) (λ j m. m)
+    drains zero head s l w = drains-on (none-waits w (omega (arith, w .fit .roomy .room))) (λ j m. m)
     drains (suc deep) head s l w =
         choose-told (Drains s) (ltb head (s .tail))
         (λ _. thenLook (model.look structs types cells (entryAt cells (getD (s .queue) head 0) 1) (entryAt cells (getD (s .queue) head 0) 2) s)
@@ -203,7 +219,7 @@ module _ {S : Setting} {H : Heap} {structs types cells : List ℕ} (hs : HoldsSe
         next h rec (on s′) (steps-on w′ g c) =
             after g _ (rec s′ (omega (arith, g .queues)) (one-less w′ (omega (arith, g .tails)) (rw (g .kept head h) c)))
           where
-            after : {s s′ : Seen} → Grown Reached s s′ → (k : Looking) → Drains s′ k → Drains s k
+            after : {s s′ : Seen} → Grown cells Reached s s′ → (k : Looking) → Drains s′ k → Drains s k
             after g (on s″) (drains-on a f) = drains-on a (λ j m. f j (g .still j m))
             after g (off marks queue) (drains-off n) = drains-off n
         next h rec (off marks queue) (steps-off n) = drains-off n
@@ -219,7 +235,7 @@ module _ {S : Setting} {H : Heap} {structs types cells : List ℕ} (hs : HoldsSe
       first _
       (steps (cell v (unpacked code)) (s .tail) s v code
       (record {
-        roomy = a .roomy;
+        fit = a .fit;
         behind = omega arith;
         each = λ j b m. inl (a .each j b m);
         reached = λ q h k. absurd (omega arith);

@@ -7,6 +7,7 @@ pub mod Sought
 pub mod Shapes
 pub mod Entries
 pub mod Marked
+pub mod Reaches
 pub mod Looks
 pub mod Drained
 pub mod Passed

@@ -3,11 +3,10 @@
 use mathlib.Core.Path.{_≡_, sym, _∙_, ap}
 use mathlib.Core.Bool.{false}
 use mathlib.Core.List.{List}
-use Prim.Native.Nat.{ℕ, _+_, _-_, _<_}
+use Prim.Native.Nat.{ℕ, _+_, _-_, _≤_, _<_}
 use native.Mathlib.Omega.{arith}
-use lib.Dec.{T, eqb}
-use borrow.Author.Tests.{eqb-true, eqb-false, eq-eqb}
-use Rattle.choice.specs.Choice.{choose}
+use lib.Dec.{eqb}
+use borrow.Author.Tests.{eqb-true, eqb-false}
 use Rattle.cells.specs.Code.{packed, unpacked}
 use Rattle.cells.specs.Heap.{Heap, look}
 use Rattle.cells.specs.declared.Cell.{Cell}
@@ -15,18 +14,19 @@ use Rattle.cells.specs.declared.HeapWord.the-variants.{Holds}
 use Rattle.cells.proofs.Codes.{round-trip}
 use Rattle.calculus.specs.Setting.{Setting, cell, size, wordKind}
 use Rattle.calculus.specs.Literal.{isBase}
-use Rattle.calculus.proofs.Same.{holds, told, refuted, fails, each-below, below-each}
+use Rattle.calculus.proofs.Same.{holds, refuted, fails}
 use Rattle.calculus.proofs.Scope.{Good, good-base, good-words}
-use Rattle.judge.specs.Tables.{entryAt}
+use Rattle.judge.specs.Tables.{entryAt, tagIn}
 use Rattle.judge.specs.Find.{entries, covered}
-use Rattle.judge.specs.Marks.{Seen, markedAll}
+use Rattle.judge.specs.Marks.{Seen}
 use Rattle.judge.specs.Literals as model
-use Rattle.judge.specs.Literals.{Looking, on, off, span, claim, agrees}
+use Rattle.judge.specs.Literals.{Looking, on, off, span, claim, lookFields, lookAlike, lookWords}
 use Rattle.judge.proofs.Room.{choose-told}
 use Rattle.judge.proofs.Tabled.{HoldsSetting, HoldsHeap, literalAt}
 use Rattle.judge.proofs.Sought.{found-there, there-found}
 use Rattle.judge.proofs.Shapes.{claim-kind, word-small, span-base, span-size}
-use Rattle.judge.proofs.Marked.{Marked, Roomy, Grown, grown-none, marks-all}
+use Rattle.judge.proofs.Marked.{Marked, Grown, grown-none}
+use Rattle.judge.proofs.Reaches.{Fit, Joins, Words, words-on, words-off, alike, fields}
 
 -- entry `index` is the i-th word that the literal needs
 pub record Needed (structs types cells : List ℕ) (v code i index : ℕ) : Type 0 where
@@ -53,7 +53,7 @@ closed-still still c =
 module _ {S : Setting} {H : Heap} {structs types cells : List ℕ} (hs : HoldsSetting S structs types) (hh : HoldsHeap H cells) where
   -- what a look may find
   pub data Looks (P : ℕ → Type 0) (s : Seen) (v code : ℕ) : Looking → Type 0 where
-    looks-on : {s′ : Seen} → Grown P s s′ → Roomy (entries cells) s′ → Closed structs types cells (s′ .marks) v code → Looks P s v code (on s′)
+    looks-on : {s′ : Seen} → Grown cells P s s′ → Fit cells s′ → Closed structs types cells (s′ .marks) v code → Looks P s v code (on s′)
     looks-off : {marks queue : List ℕ} → (Good S H v (unpacked code) → ⊥) → Looks P s v code (off marks queue)
 
   -- a literal that needs words is not base, and needs those that its target covers
@@ -85,51 +85,61 @@ module _ {S : Setting} {H : Heap} {structs types cells : List ℕ} (hs : HoldsSe
         there-found cells (hh .rising) v (span structs v code - 1)
         (λ i l. hh .only (v + i) (cell (w i) (wordKind S (unpacked code) i)) (there i (omega arith))) e
 
-    good-agrees : (first ≡ entries cells → ⊥) → Good S H v (unpacked code) → T (agrees structs types cells code first (span structs v code) 0)
-    good-agrees m (good-base b) = absurd (refuted (needs-words v code n) b)
-    good-agrees m (good-words w there) =
+    good-codes : (first ≡ entries cells → ⊥) → Good S H v (unpacked code) → (i : ℕ) → i < span structs v code
+        → entryAt cells (first + i) 2 ≡ claim structs types code i
+    good-codes m (good-base b) i l = absurd (refuted (needs-words v code n) b)
+    good-codes m (good-words w there) i l =
         let k : span structs v code ≡ size S (unpacked code) = span-size hs v code (needs-words v code n) in
         let f = found-there cells (hh .rising) v (span structs v code - 1) m in
-        below-each (λ i. eqb (entryAt cells (first + i) 2) (claim structs types code i)) (span structs v code)
-        (λ i l. told (eq-eqb _ _ (right-code v code i (first + i) (w i) (omega arith) (omega (arith, f .below)) (f .each i (omega arith)) (there i (omega arith)))))
+        right-code v code i (first + i) (w i) (omega arith) (omega (arith, f .below)) (f .each i (omega arith)) (there i (omega arith))
 
-    -- words that are found and agree are those needed
-    found-needed : (first ≡ entries cells → ⊥) → T (agrees structs types cells code first (span structs v code) 0)
-        → (i : ℕ) → i < span structs v code → Needed structs types cells v code i (first + i)
-    found-needed m a i l =
-        let f = found-there cells (hh .rising) v (span structs v code - 1) m in
-        record {
-          few = l;
-          below = omega (arith, f .below);
-          address = f .each i (omega arith);
-          kind = eqb-true _ _ (holds _ (each-below (λ i. eqb (entryAt cells (first + i) 2) (claim structs types code i)) (span structs v code) a i l));
-        }
+    module _ (m : first ≡ entries cells → ⊥) where
+      -- words that are found and have the codes claimed are those needed
+      found-needed : (i : ℕ) → i < span structs v code → entryAt cells (first + i) 2 ≡ claim structs types code i
+          → Needed structs types cells v code i (first + i)
+      found-needed i l e =
+          let f = found-there cells (hh .rising) v (span structs v code - 1) m in
+          record { few = l; below = omega (arith, f .below); address = f .each i (omega arith); kind = e }
 
-    words-on : {P : ℕ → Type 0} (s : Seen) → Roomy (entries cells) s → (m : first ≡ entries cells → ⊥)
-        → ((i j : ℕ) → Needed structs types cells v code i j → P j)
-        → T (agrees structs types cells code first (span structs v code) 0)
-        → Looks P s v code (on (markedAll (span structs v code) first s))
-    words-on {P} s r m p a =
-        let f = found-there cells (hh .rising) v (span structs v code - 1) m in
-        let g = marks-all {P = P} (span structs v code) first s r (omega (arith, f .below)) (λ i l. p i (first + i) (found-needed m a i l)) in
-        looks-on (g .grown) (g .roomy)
-        (record { each = λ i l. record { index = first + i; needed = found-needed m a i l; marked = g .each i l } })
+      words-looked : {P : ℕ → Type 0} {s : Seen} (l : Looking) → Words cells P (claim structs types code) (span structs v code) first s l
+          → Looks P s v code l
+      words-looked (on s′) (words-on g t k) =
+          looks-on g t
+          (record { each = λ i l. record { index = first + i; needed = found-needed i l (k i l .code-is); marked = k i l .marked } })
+      words-looked (off marks queue) (words-off a) = looks-off (λ g. a (good-codes m g))
 
-  pub looks : {P : ℕ → Type 0} (s : Seen) (v code : ℕ) → Roomy (entries cells) s → ((i j : ℕ) → Needed structs types cells v code i j → P j)
+      -- all words of a pointer to anything but a struct are claimed to be alike
+      same-claim : (eqb (tagIn code) 2 ≡ false) → (i : ℕ) → claim structs types code i ≡ claim structs types code 0
+      unfolding claim
+      same-claim t i = rw t
+
+      looks-words : {P : ℕ → Type 0} (s : Seen) → Fit cells s → ((i j : ℕ) → Needed structs types cells v code i j → P j)
+          → Looks P s v code (lookWords structs types cells code first (span structs v code) s)
+      looks-words {P} s t p =
+          let f = found-there cells (hh .rising) v (span structs v code - 1) m in
+          let b : first + span structs v code ≤ entries cells = omega (arith, f .below) in
+          let z : first + 0 ≡ first = omega arith in
+          let joins : Joins cells P (claim structs types code) (span structs v code) first =
+          record { each = λ d l e. p d (first + d) (found-needed d l e) } in
+          choose-told (Looks P s v code) (eqb (tagIn code) 2)
+          (λ _. lookFields structs types cells code first (span structs v code) 0 s)
+          (λ _. lookAlike cells (claim structs types code 0) (span structs v code) (span structs v code) first s)
+          (λ u. words-looked _
+          (rw z at (fields {P = P} structs types code first (span structs v code) 0 s {f = claim structs types code}
+          (λ d. let y : 0 + d ≡ d = omega arith in rw y) (omega arith) t
+          (rw z joins))))
+          (λ u. words-looked _
+          (alike (claim structs types code 0) (span structs v code) first s (same-claim u) b t joins))
+
+  pub looks : {P : ℕ → Type 0} (s : Seen) (v code : ℕ) → Fit cells s → ((i j : ℕ) → Needed structs types cells v code i j → P j)
       → Looks P s v code (model.look structs types cells v code s)
   unfolding model.look
-  looks {P} s v code r p =
+  looks {P} s v code t p =
       let k : ℕ = span structs v code in
       let j : ℕ = covered cells v (k - 1) in
-      choose-told (Looks P s v code) (eqb k 0) (λ _. on s)
-      (λ _. choose (eqb j (entries cells)) (λ _. off (s .marks) (s .queue)) λ _.
-      choose (agrees structs types cells code j k 0) (λ _. on (markedAll k j s)) (λ _. off (s .marks) (s .queue)))
-      (λ t. looks-on (grown-none s) r (record { each = λ i l. absurd (let z : k ≡ 0 = eqb-true k 0 t in omega arith) }))
-      (λ t. let n : k ≡ 0 → ⊥ = eqb-false k 0 t in
-      choose-told (Looks P s v code) (eqb j (entries cells)) (λ _. off (s .marks) (s .queue))
-      (λ _. choose (agrees structs types cells code j k 0) (λ _. on (markedAll k j s)) (λ _. off (s .marks) (s .queue)))
-      (λ u. looks-off (λ g. good-found v code n g (eqb-true j (entries cells) u)))
-      (λ u. let m : j ≡ entries cells → ⊥ = eqb-false j (entries cells) u in
-      choose-told (Looks P s v code) (agrees structs types cells code j k 0) (λ _. on (markedAll k j s)) (λ _. off (s .marks) (s .queue))
-      (λ a. words-on v code n s r m p (told a))
-      (λ a. looks-off (λ g. refuted a (good-agrees v code n m g)))))
+      choose-told (Looks P s v code) (eqb k 0) (λ _. on s) _
+      (λ u. looks-on (grown-none s) t (record { each = λ i l. absurd (let z : k ≡ 0 = eqb-true k 0 u in omega arith) }))
+      (λ u. let n : k ≡ 0 → ⊥ = eqb-false k 0 u in
+      choose-told (Looks P s v code) (eqb j (entries cells)) (λ _. off (s .marks) (s .queue)) _
+      (λ w. looks-off (λ g. good-found v code n g (eqb-true j (entries cells) w)))
+      (λ w. looks-words v code n (eqb-false j (entries cells) w) s t p))

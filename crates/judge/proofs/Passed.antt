@@ -81,6 +81,10 @@ module _ {S : Setting} {H : Heap} {structs types cells : List ℕ} (hs : HoldsSe
   first-bad marks queue m q =
       passes (length table / 4) 0 (seen (replicate (length marks) 0) queue 0) (omega arith) (λ j h. absurd (omega arith))
       (record {
-        roomy = record { long = rw length-replicate m; room = omega (arith, blank-most (entries cells) (replicate (length marks) 0)) };
+        fit =
+            record {
+              roomy = record { long = rw length-replicate m; room = omega (arith, blank-most (entries cells) (replicate (length marks) 0)) };
+              reach = record { each = λ k i h. absurd (omega (arith, blank-mark (length marks) k)) };
+            };
         each = λ j b n. absurd (n (blank-mark (length marks) j));
       })

@@ -2,16 +2,16 @@
 use mathlib.Core.Path.{_≡_, refl, _∙_}
 use mathlib.Core.Bool.{Bool, true, false}
 use mathlib.Core.List.{List}
-use Prim.Native.Nat.{ℕ, zero, suc, _+_, _-_, _≤_, _<_}
+use Prim.Native.Nat.{ℕ, zero, suc, _+_, _-_, _%_, _≤_, _<_}
 use native.Mathlib.Omega.{arith}
 use lib.Dec.{eqb, ltb, leb}
 use lib.ListN.{length, length-set, getD, set}
 use borrow.Author.Tests.{ltb-true, leb-false}
 use Rattle.choice.specs.Choice.{choose, choose-case}
-use Rattle.judge.specs.Tables.{entryAt, rowAt}
+use Rattle.judge.specs.Tables.{entryAt, rowAt, tagIn}
 use Rattle.judge.specs.Find.{present, covered, entries, place}
-use Rattle.judge.specs.Marks.{Seen, seen, marked, markedAll}
-use Rattle.judge.specs.Literals.{Looking, on, off, span, agrees, look, drain, literal, nodeLook, thenLook}
+use Rattle.judge.specs.Marks.{Seen, seen, marked}
+use Rattle.judge.specs.Literals.{Looking, on, off, span, claim, lookAlike, lookFields, lookWords, look, drain, literal, nodeLook, thenLook}
 
 -- a property of a choice, with the test's outcome in hand
 pub choose-told : {A : Type 0} (P : A → Type 0) (t : Bool) (a b : Unit {0} → A) → (t ≡ true → P (a tt)) → (t ≡ false → P (b tt))
@@ -57,51 +57,69 @@ keeps-none s = record { long = refl; ends = λ h. h }
 keeps-then : {s s′ s″ : Seen} → Keeps s s′ → Keeps s′ s″ → Keeps s s″
 keeps-then k l = record { long = l .long ∙ k .long; ends = λ h. l .ends (k .ends h) }
 
-keeps-marked : (j : ℕ) (s : Seen) → Keeps s (marked j s)
+keeps-marked : (code reach j : ℕ) (s : Seen) → Keeps s (marked code reach j s)
 unfolding marked
-keeps-marked j s =
-    choose-case (Keeps s) (eqb (getD (s .marks) j 0) 0)
-    (λ _. choose (ltb (s .tail) (length (s .queue))) (λ _. seen (set (s .marks) j 1) (set (s .queue) (s .tail) j) (s .tail + 1)) (λ _. s))
-    (λ _. s)
-    (choose-told (Keeps s) (ltb (s .tail) (length (s .queue))) (λ _. seen (set (s .marks) j 1) (set (s .queue) (s .tail) j) (s .tail + 1)) (λ _. s)
+keeps-marked code reach j s =
+    choose-case (Keeps s) (eqb (getD (s .marks) j 0) 0) _ (λ _. s)
+    (choose-case (Keeps s) (eqb (code % 2) 1) (λ _. seen (set (s .marks) j reach) (s .queue) (s .tail)) _
+    (record { long = refl; ends = λ h. h })
+    (choose-told (Keeps s) (ltb (s .tail) (length (s .queue)))
+    (λ _. seen (set (s .marks) j reach) (set (s .queue) (s .tail) j) (s .tail + 1)) (λ _. s)
     (λ t. record { long = simp length-set; ends = λ _. simp length-set (omega (arith, ltb-true (s .tail) (length (s .queue)) t)) })
-    (λ _. keeps-none s))
+    (λ _. keeps-none s)))
     (keeps-none s)
-
-pub keeps-all : (count first : ℕ) (s : Seen) → Keeps s (markedAll count first s)
-unfolding markedAll
-keeps-all zero first s = keeps-none s
-keeps-all (suc count) first s = keeps-then (keeps-marked first s) (keeps-all count (first + 1) (marked first s))
 
 -- what is seen behind a look keeps it so
 pub data After (s : Seen) : Looking → Type 0 where
   after-on : {s′ : Seen} → Keeps s s′ → After s (on s′)
   after-off : {marks queue : List ℕ} → After s (off marks queue)
 
+more-after : {s s′ : Seen} → Keeps s s′ → (l : Looking) → After s′ l → After s l
+more-after k (on s″) (after-on l) = after-on (keeps-then k l)
+more-after k (off marks queue) after-off = after-off
+
 then-after : {s : Seen} (l : Looking) (go : Seen → Looking) → After s l → ((s′ : Seen) → After s′ (go s′)) → After s (thenLook l go)
-then-after (on s′) go (after-on k) f = more k (go s′) (f s′)
-  where
-    more : {s s′ : Seen} → Keeps s s′ → (l : Looking) → After s′ l → After s l
-    more k (on s″) (after-on l) = after-on (keeps-then k l)
-    more k (off marks queue) after-off = after-off
+then-after (on s′) go (after-on k) f = more-after k (go s′) (f s′)
 then-after (off marks queue) go after-off f = after-off
 
+alike-after : (cells : List ℕ) (code deep left j : ℕ) (s : Seen) → After s (lookAlike cells code deep left j s)
+unfolding lookAlike
+alike-after cells code zero left j s = after-on (keeps-none s)
+alike-after cells code (suc deep) left j s =
+    choose-case (After s) (ltb 0 left) _ (λ _. on s)
+    (choose-case (After s) (eqb (entryAt cells j 2) code) _ (λ _. off (s .marks) (s .queue))
+    (choose-case (After s) (eqb (getD (s .marks) j 0) 0) _ _
+    (more-after (keeps-marked code left j s) _ (alike-after cells code deep (left - 1) (j + 1) (marked code left j s)))
+    (choose-case (After s) (leb left (getD (s .marks) j 0)) (λ _. on s) _
+    (after-on (keeps-none s))
+    (more-after (record { long = refl; ends = λ h. h }) _
+    (alike-after cells code deep (left - getD (s .marks) j 0) (j + getD (s .marks) j 0) (seen (set (s .marks) j left) (s .queue) (s .tail))))))
+    after-off)
+    (after-on (keeps-none s))
+
 module _ (structs types cells : List ℕ) where
+  fields-after : (code first left i : ℕ) (s : Seen) → After s (lookFields structs types cells code first left i s)
+  unfolding lookFields
+  fields-after code first zero i s = after-on (keeps-none s)
+  fields-after code first (suc left) i s =
+      choose-case (After s) (eqb (entryAt cells (first + i) 2) (claim structs types code i)) _ (λ _. off (s .marks) (s .queue))
+      (more-after (keeps-marked (claim structs types code i) 1 (first + i) s) _
+      (fields-after code first left (i + 1) (marked (claim structs types code i) 1 (first + i) s)))
+      after-off
+
   pub look-after : (value code : ℕ) (s : Seen) → After s (look structs types cells value code s)
   unfolding look
   look-after value code s =
       let k : ℕ = span structs value code in
       let j : ℕ = covered cells value (k - 1) in
-      choose-case (After s) (eqb k 0) (λ _. on s)
-      (λ _. choose (eqb j (entries cells)) (λ _. off (s .marks) (s .queue)) λ _.
-      choose (agrees structs types cells code j k 0) (λ _. on (markedAll k j s)) (λ _. off (s .marks) (s .queue)))
+      choose-case (After s) (eqb k 0) (λ _. on s) _
       (after-on (keeps-none s))
-      (choose-case (After s) (eqb j (entries cells)) (λ _. off (s .marks) (s .queue))
-      (λ _. choose (agrees structs types cells code j k 0) (λ _. on (markedAll k j s)) (λ _. off (s .marks) (s .queue)))
+      (choose-case (After s) (eqb j (entries cells)) (λ _. off (s .marks) (s .queue)) (λ _. lookWords structs types cells code j k s)
       after-off
-      (choose-case (After s) (agrees structs types cells code j k 0) (λ _. on (markedAll k j s)) (λ _. off (s .marks) (s .queue))
-      (after-on (keeps-all k j s))
-      after-off))
+      (choose-case (After s) (eqb (tagIn code) 2) (λ _. lookFields structs types cells code j k 0 s)
+      (λ _. lookAlike cells (claim structs types code 0) k k j s)
+      (fields-after code j k 0 s)
+      (alike-after cells (claim structs types code 0) k k j s)))
 
   pub drain-after : (deep head : ℕ) (s : Seen) → After s (drain structs types cells deep head s)
   unfolding drain

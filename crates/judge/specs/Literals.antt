@@ -1,15 +1,14 @@
 -- The literal check as the code goes about it: a literal's words are looked for and marked, what was marked is looked at in turn, and
 -- the pass ends at the first literal that is off.
 use Prim.Native.Nat.{ℕ, zero, suc, _+_, _-_, _/_, _%_}
-use mathlib.Core.Bool.{Bool}
 use mathlib.Core.List.{List}
-use lib.Dec.{eqb, ltb}
-use lib.ListN.{length, getD, replicate}
-use Rattle.choice.specs.Choice.{choose, allFrom}
+use lib.Dec.{eqb, ltb, leb}
+use lib.ListN.{length, getD, set, replicate}
+use Rattle.choice.specs.Choice.{choose}
 use Rattle.cells.specs.Code.{numberIn}
 use Rattle.judge.specs.Tables.{rowAt, entryAt, fieldAt, codeOf, tagIn, sizeOf}
 use Rattle.judge.specs.Find.{entries, covered}
-use Rattle.judge.specs.Marks.{Seen, seen, markedAll}
+use Rattle.judge.specs.Marks.{Seen, seen, marked}
 use Rattle.judge.specs.declared.Looked.{Looked}
 use Rattle.judge.specs.declared.Looked.the-variants.{On, Off}
 
@@ -51,19 +50,41 @@ abbrev pub thenNext : ℕ → Looking → (Seen → Found) → Found
 thenNext i (on s) go = go s
 thenNext i (off marks queue) go = found i marks queue
 
+-- `left` entries from j on have this code: then they are seen. What a mark knows to be alike is passed over, and each mark that is met
+-- reaches as far as the words do; at most `deep` are met.
+unfoldable pub lookAlike : (cells : List ℕ) (code deep left j : ℕ) → Seen → Looking
+lookAlike cells code zero left j s = on s
+lookAlike cells code (suc deep) left j s =
+    choose (ltb 0 left)
+    (λ _. choose (eqb (entryAt cells j 2) code)
+    (λ _. choose (eqb (getD (s .marks) j 0) 0) (λ _. lookAlike cells code deep (left - 1) (j + 1) (marked code left j s)) λ _.
+    choose (leb left (getD (s .marks) j 0)) (λ _. on s) λ _.
+    lookAlike cells code deep (left - getD (s .marks) j 0) (j + getD (s .marks) j 0) (seen (set (s .marks) j left) (s .queue) (s .tail)))
+    (λ _. off (s .marks) (s .queue)))
+    (λ _. on s)
+
 module _ (structs types cells : List ℕ) where
-  -- `count` entries from `first` on, counted from i, have the codes that a pointer claims
-  abbrev pub agrees : (code first count i : ℕ) → Bool
-  agrees code first count i = allFrom (λ k. eqb (entryAt cells (first + k) 2) (claim structs types code k)) count i
+  -- `left` entries from `first` + i on have the codes that a pointer claims of its words from the i-th on: then they are seen
+  unfoldable pub lookFields : (code first left i : ℕ) → Seen → Looking
+  lookFields code first zero i s = on s
+  lookFields code first (suc left) i s =
+      choose (eqb (entryAt cells (first + i) 2) (claim structs types code i))
+      (λ _. lookFields code first left (i + 1) (marked (claim structs types code i) 1 (first + i) s))
+      (λ _. off (s .marks) (s .queue))
+
+  -- `count` entries from `first` on are the words that a pointer needs: fields have each a code of its own, all else is alike
+  abbrev pub lookWords : (code first count : ℕ) → Seen → Looking
+  lookWords code first count s =
+      choose (eqb (tagIn code) 2)
+      (λ _. lookFields code first count 0 s)
+      (λ _. lookAlike cells (claim structs types code 0) count count first s)
 
   -- the words that a literal needs are there and have the codes claimed: then they are seen
   unfoldable pub look : (value code : ℕ) → Seen → Looking
   look value code s =
       choose (eqb (span structs value code) 0) (λ _. on s) λ _.
       choose (eqb (covered cells value (span structs value code - 1)) (entries cells)) (λ _. off (s .marks) (s .queue)) λ _.
-      choose (agrees code (covered cells value (span structs value code - 1)) (span structs value code) 0)
-      (λ _. on (markedAll (span structs value code) (covered cells value (span structs value code - 1)) s))
-      (λ _. off (s .marks) (s .queue))
+      lookWords code (covered cells value (span structs value code - 1)) (span structs value code) s
 
   -- the entries in the queue from `head` on are looked at, one after another, with those that join it; at most `deep` of them
   unfoldable pub drain : (deep head : ℕ) → Seen → Looking

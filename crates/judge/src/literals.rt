@@ -3,10 +3,10 @@
 ghost use Prim.Native.Nat.{_+_, _<_, _≤_, _^_};
 ghost use mathlib.Core.Path.{_≡_};
 ghost use Rattle.judge.specs.Marks.{seen};
-ghost use Rattle.judge.specs.Literals.{span, claim, agrees, look, literal, nodeLook, firstBad, looking, found};
+ghost use Rattle.judge.specs.Literals.{span, claim, lookFields, lookAlike, look, literal, nodeLook, firstBad, looking, found};
 use crate::Looked;
 use crate::find::covered;
-use crate::marks::mark_all;
+use crate::marks::mark;
 use crate::marks::wipe;
 use crate::tables::entry;
 use crate::tables::field_at;
@@ -14,6 +14,8 @@ use crate::tables::index;
 use crate::tables::row;
 use crate::tables::size_of;
 use crate::tables::type_code;
+use crate::tables::wide;
+use cells::put;
 use cells::word;
 
 // How many words a literal needs: those that its target covers, if it is a checked pointer other than 0.
@@ -41,27 +43,73 @@ fn claim(structs: &[u64], types: &[u64], code: u64, i: usize) -> u64
     type_code(types, of)
 }
 
-// Whether `count` entries from `first` on have the codes that a pointer claims.
-fn agrees(
+// `count` entries from `first` on have the codes that a pointer to a struct claims: then they are marked.
+fn look_fields(
+    marks: &mut [u64],
+    queue: &mut [u64],
     structs: &[u64],
     types: &[u64],
     cells: &[u64],
+    tail: usize,
     code: u64,
     first: usize,
     count: usize,
-) -> bool
+) -> Looked
     requires { ⌜ first + count < 2 ^ 64 ⌝ }
-    ensures { λ r. ⌜ r ≡ agrees (now (structs .entry)) (now (types .entry)) (now (cells .entry)) code first count 0 ⌝ }
+    ensures { λ r. ⌜ looking r (now (marks .exit)) (now (queue .exit))
+        ≡ lookFields (now (structs .entry)) (now (types .entry)) (now (cells .entry)) code first count 0
+        (seen (now (marks .entry)) (now (queue .entry)) tail) ⌝ }
 {
+    let mut end = tail;
     let mut i = 0;
     while i < count {
-        if entry(cells, first + i, 2) == claim(structs, types, code, i) {
-            i += 1;
+        let kind = claim(structs, types, code, i);
+        if entry(cells, first + i, 2) != kind {
+            return Looked::Off;
+        }
+        end = mark(marks, queue, end, first + i, kind, 1);
+        i += 1;
+    }
+    Looked::On(end)
+}
+
+// `count` entries from `first` on have this code: then they are marked. What a mark knows to be alike isn't looked at again.
+fn look_alike(
+    marks: &mut [u64],
+    queue: &mut [u64],
+    cells: &[u64],
+    tail: usize,
+    code: u64,
+    first: usize,
+    count: usize,
+) -> Looked
+    requires { ⌜ first + count < 2 ^ 64 ⌝ }
+    ensures { λ r. ⌜ looking r (now (marks .exit)) (now (queue .exit))
+        ≡ lookAlike (now (cells .entry)) code count count first (seen (now (marks .entry)) (now (queue .entry)) tail) ⌝ }
+{
+    let mut end = tail;
+    let mut j = first;
+    let mut left = count;
+    while 0 < left {
+        if entry(cells, j, 2) != code {
+            return Looked::Off;
+        }
+        let known = word(marks, j);
+        if known == 0 {
+            end = mark(marks, queue, end, j, code, wide(left));
+            j += 1;
+            left -= 1;
         } else {
-            return false;
+            if wide(left) <= known {
+                return Looked::On(end);
+            }
+            put(marks, j, wide(left));
+            let far = index(known);
+            j += far;
+            left -= far;
         }
     }
-    true
+    Looked::On(end)
 }
 
 // The words that a literal needs are there and have the codes claimed: then they are marked.
@@ -86,10 +134,28 @@ fn look(
     if first == cells.len() / 3 {
         return Looked::Off;
     }
-    if agrees(structs, types, cells, code, first, needed) {
-        return Looked::On(mark_all(marks, queue, tail, first, needed));
+    if code % 8 / 2 == 2 {
+        return look_fields(
+            marks,
+            queue,
+            structs,
+            types,
+            cells,
+            tail,
+            code,
+            first,
+            needed,
+        );
     }
-    Looked::Off
+    look_alike(
+        marks,
+        queue,
+        cells,
+        tail,
+        claim(structs, types, code, 0),
+        first,
+        needed,
+    )
 }
 
 // A literal and all that is reached from it: the entries that join the queue are looked at in turn. The look is called in one place, so

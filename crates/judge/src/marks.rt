@@ -1,8 +1,8 @@
 // Marks, one for each entry of the cell table, and the queue of marked entries: each entry is put into it once.
-ghost use Prim.Native.Nat.{_+_, _<_, _^_};
+ghost use Prim.Native.Nat.{_+_, _<_};
 ghost use mathlib.Core.Path.{_≡_};
 ghost use lib.ListN.{length, replicate};
-ghost use Rattle.judge.specs.Marks.{seen, marked, markedAll};
+ghost use Rattle.judge.specs.Marks.{seen, marked};
 use crate::tables::wide;
 use cells::put;
 use cells::word;
@@ -18,38 +18,28 @@ pub fn wipe(marks: &mut [u64])
     }
 }
 
-// Entry j is marked and put into the queue, unless it is marked already or the queue is full. Answers where the queue ends.
-fn mark(marks: &mut [u64], queue: &mut [u64], tail: usize, j: usize) -> usize
-    ensures { λ r. ⌜ seen (now (marks .exit)) (now (queue .exit)) r ≡ marked j (seen (now (marks .entry)) (now (queue .entry)) tail) ⌝ }
+// Entry j, of this code, is marked, and put into the queue if words of its code can need others. Nothing happens if it is marked already
+// or the queue is full. Answers where the queue ends.
+pub fn mark(
+    marks: &mut [u64],
+    queue: &mut [u64],
+    tail: usize,
+    j: usize,
+    code: u64,
+    reach: u64,
+) -> usize
+    ensures { λ r. ⌜ seen (now (marks .exit)) (now (queue .exit)) r ≡ marked code reach j (seen (now (marks .entry)) (now (queue .entry)) tail) ⌝ }
 {
     if word(marks, j) == 0 {
+        if code % 2 == 1 {
+            put(marks, j, reach);
+            return tail;
+        }
         if tail < queue.len() {
-            put(marks, j, 1);
+            put(marks, j, reach);
             put(queue, tail, wide(j));
             return tail + 1;
         }
     }
     tail
-}
-
-// The same for `count` entries from `first` on.
-pub fn mark_all(
-    marks: &mut [u64],
-    queue: &mut [u64],
-    tail: usize,
-    first: usize,
-    count: usize,
-) -> usize
-    requires { ⌜ first + count < 2 ^ 64 ⌝ }
-    ensures { λ r. ⌜ seen (now (marks .exit)) (now (queue .exit)) r ≡ markedAll count first (seen (now (marks .entry)) (now (queue .entry)) tail) ⌝ }
-{
-    let mut end = tail;
-    let mut j = first;
-    let mut left = count;
-    while 0 < left {
-        end = mark(marks, queue, end, j);
-        j += 1;
-        left -= 1;
-    }
-    end
 }

@@ -1,13 +1,20 @@
 -- `judge::literals::look` looks for a literal's words and marks them. Assumes nothing.
-use Prim.Native.Nat.{_-_}
+use mathlib.Core.Path.{_≡_}
+use mathlib.Core.List.{List}
+use Prim.Native.Nat.{ℕ, _+_, _-_, _<_}
 use native.Mathlib.Omega.{arith}
 use borrow.Author.Tests.{eq-eqb, ne-eqb}
-use Rattle.judge.specs.Find.{covered}
+use Rattle.judge.specs.Find.{covered, entries}
 use Rattle.judge.specs.Literals.{look}
 use Rattle.judge.proofs.Room.{covered-fits}
 use borrow.Author.Needs.{needs}
 use Rattle.judge.proofs.literals.look.Statement.{statement}
 use Rattle.judge.proofs.literals.look.Tie as tie
+
+-- words that are found lie within the table
+found-within : (cells : List ℕ) (value needed first : ℕ) → first ≡ covered cells value (needed - 1) → (first ≡ entries cells → ⊥)
+    → first + (needed - 1) < entries cells
+found-within cells value needed first e n = rw e (covered-fits cells value (needed - 1) .fits (rw e at n))
 
 span-requires : tie.Need-span-requires
 span-requires c κs = search needs
@@ -26,11 +33,8 @@ returns-2 : tie.Need-returns-2
 unfolding look
 returns-2 c = rw (← c .before .before .before .span .ensures, ne-eqb _ 0 (c .before .before .if1 .left), ← c .before .covered .ensures, eq-eqb _ _ (c .if2 .taken))
 
-agrees-requires : tie.Need-agrees-requires
-agrees-requires c κs = let h = covered-fits (c .before .before .before .before .before .before .before .before .before .args .cells .now) (c .before .before .before .before .before .before .before .before .before .args .value) (c .before .before .before .span .result - 1) .fits (rw (c .before .covered .ensures) at (c .if2 .left)) in omega (arith, h, c .before .covered .ensures)
-
-mark-all-requires : tie.Need-mark-all-requires
-mark-all-requires c κs = let h = covered-fits (c .before .before .before .before .before .before .before .before .before .before .before .before .before .args .cells .now) (c .before .before .before .before .before .before .before .before .before .before .before .before .before .args .value) (c .before .before .before .before .before .before .before .span .result - 1) .fits (rw (c .before .before .before .before .before .covered .ensures) at (c .before .before .before .before .if2 .left)) in omega (arith, h, c .before .before .before .before .before .covered .ensures)
+look-fields-requires : tie.Need-look-fields-requires
+look-fields-requires c κs = let h = found-within _ _ (c .before .before .before .before .before .before .span .result) _ (c .before .before .before .before .covered .ensures) (c .before .before .before .if2 .left) in omega arith
 
 same-length : tie.Need-same-length
 same-length c = search needs
@@ -40,11 +44,23 @@ same-length-2 c = search needs
 
 returns-3 : tie.Need-returns-3
 unfolding look
-returns-3 c = rw (← c .before .before .before .before .before .before .before .before .before .before .before .before .span .ensures, ne-eqb _ 0 (c .before .before .before .before .before .before .before .before .before .before .before .if1 .left), ← c .before .before .before .before .before .before .before .before .before .before .covered .ensures, ne-eqb _ _ (c .before .before .before .before .before .before .before .before .before .if2 .left), ← c .before .before .before .before .before .before .before .before .agrees .ensures, c .before .before .before .before .before .before .before .if3 .taken, c .before .before .before .before .mark-all .ensures)
+returns-3 c = rw (← c .before .before .before .before .before .before .before .before .before .before .before .span .ensures, ne-eqb _ 0 (c .before .before .before .before .before .before .before .before .before .before .if1 .left), ← c .before .before .before .before .before .before .before .before .before .covered .ensures, ne-eqb _ _ (c .before .before .before .before .before .before .before .before .if2 .left), c .before .before .before .before .before .before .before .if3 .taken, c .before .before .before .before .look-fields .ensures)
+
+claim-requires : tie.Need-claim-requires
+claim-requires c κs = search needs
+
+look-alike-requires : tie.Need-look-alike-requires
+look-alike-requires c κs = let h = found-within _ _ (c .before .before .before .before .before .before .before .span .result) _ (c .before .before .before .before .before .covered .ensures) (c .before .before .before .before .if2 .left) in omega arith
+
+same-length-3 : tie.Need-same-length-3
+same-length-3 c = search needs
+
+same-length-4 : tie.Need-same-length-4
+same-length-4 c = search needs
 
 returns-4 : tie.Need-returns-4
 unfolding look
-returns-4 c = rw (← c .before .before .before .before .before .span .ensures, ne-eqb _ 0 (c .before .before .before .before .if1 .left), ← c .before .before .before .covered .ensures, ne-eqb _ _ (c .before .before .if2 .left), ← c .before .agrees .ensures, c .if3 .left)
+returns-4 c = rw (← c .before .before .before .before .before .before .before .before .before .before .before .before .span .ensures, ne-eqb _ 0 (c .before .before .before .before .before .before .before .before .before .before .before .if1 .left), ← c .before .before .before .before .before .before .before .before .before .before .covered .ensures, ne-eqb _ _ (c .before .before .before .before .before .before .before .before .before .if2 .left), ne-eqb _ 2 (c .before .before .before .before .before .before .before .before .if3 .left), c .before .before .before .before .look-alike .ensures, c .before .before .before .before .before .claim .ensures)
 
 pub look-spec : {M : Type 1} → statement M
 look-spec =
@@ -55,9 +71,12 @@ look-spec =
     sub-covered
     covered-requires
     returns-2
-    agrees-requires
-    mark-all-requires
+    look-fields-requires
     same-length
     same-length-2
     returns-3
+    claim-requires
+    look-alike-requires
+    same-length-3
+    same-length-4
     returns-4)
