@@ -1,9 +1,8 @@
 -- A mark is a true reach: so many entries from its own on are marked and have its entry's code. So a pass over words of one code may skip
 -- what a mark reaches, and finds the same as one that looks at every word. While such a pass goes on, the marks that it has met reach as
 -- far as its words do, which are still to come: they are true once it has ended well, and if it ends badly nothing asks for them.
-use mathlib.Core.Path.{_≡_, refl, sym, _∙_}
+use mathlib.Core.Path.{_≡_, sym, _∙_}
 use mathlib.Core.Logic.{_⊎_, inl, inr, ⊎-elim}
-use mathlib.Core.Bool.{Bool, true, false}
 use mathlib.Core.List.{List}
 use Prim.Native.Nat.{ℕ, zero, suc, _+_, _-_, _≤_, _<_}
 use native.Mathlib.Decide.{ℕ-discrete, decLt}
@@ -12,10 +11,9 @@ use lib.Dec.{eqb, ltb, leb}
 use lib.ListN.{length, getD, set}
 use lib.Seq.{getD-set-same, getD-set-other}
 use borrow.Author.Tests.{eqb-true, eqb-false, ltb-true, ltb-false, leb-true, leb-false, ne-eqb}
-use Rattle.choice.specs.Choice.{choose}
 use Rattle.judge.specs.Tables.{entryAt}
 use Rattle.judge.specs.Find.{entries}
-use Rattle.judge.specs.Marks.{Seen, seen, marked}
+use Rattle.judge.specs.Marks.{Seen, marked}
 use Rattle.judge.specs.Literals.{Looking, on, off, claim, lookAlike, lookFields}
 use Rattle.judge.proofs.Room.{choose-told}
 use Rattle.judge.proofs.Marked.{Marked, Roomy, Grown, grown-none, grown-then, Marks, marks-new, marks-raised, set-is, set-still}
@@ -62,7 +60,7 @@ module _ {cells marks : List ℕ} {code j end : ℕ} (r : Reaching cells marks c
   reached all =
       record { each = λ k i h. ⊎-elim (λ n. n) (λ c. rw (c .code-is) (all (k + i) (c .from) (c .to))) (r .each k i h) }
 
--- entry j is met: its mark reaches as far as the words do, and the pass goes on far ahead
+-- entry j is met: its mark reaches as far as the words do, and the pass goes on `far` words ahead
 module _ {cells marks : List ℕ} {code j left : ℕ} (far : ℕ) (r : Reaching cells marks code j (j + left)) (e : entryAt cells j 2 ≡ code)
     (o : 0 < left) (l : j < length marks) (q : 0 < far) (near : (d : ℕ) → d < far → (d < getD marks j 0) ⊎ (d ≡ 0)) where
   -- what it passes is known
@@ -130,11 +128,19 @@ module _ {cells : List ℕ} {P : ℕ → Type 0} where
   words-then {f} {far} {rest} {left} {j} e g k (off marks queue) (words-off n) =
       words-off (λ all. n (λ d b. let x : j + far + d ≡ j + (far + d) = omega arith in rw x (all (far + d) (omega arith))))
 
+  -- what joins from `far` words on
   later : {f : ℕ → ℕ} {left j : ℕ} → Joins cells P f left j → (far rest : ℕ) → far + rest ≤ left → Joins cells P (λ d. f (far + d)) rest (j + far)
   later {f} {left} {j} p far rest l =
       record { each = λ d h e. let x : j + far + d ≡ j + (far + d) = omega arith in rw x (p .each (far + d) (omega arith) (rw x at e)) }
 
-  -- words of one code: entry j is met, and the pass goes on far ahead
+  -- ---- words of one code
+  -- the pass has ended
+  none-left : {f : ℕ → ℕ} {code left j : ℕ} {s : Seen} → left ≤ 0 → Roomy (entries cells) s → Reaching cells (s .marks) code j (j + left)
+      → Words cells P f left j s (on s)
+  none-left {s = s} z r t =
+      words-on (grown-none s) (record { roomy = r; reach = reached t (λ k h m. absurd (omega arith)) }) (λ d h. absurd (omega arith))
+
+  -- entry j is met
   module _ {f : ℕ → ℕ} {code : ℕ} (c : (d : ℕ) → f d ≡ code) {left j : ℕ} {s : Seen} (o : 0 < left)
       (r : Roomy (entries cells) s) (t : Reaching cells (s .marks) code j (j + left)) (b : j < entries cells) (e : entryAt cells j 2 ≡ code) where
     -- its mark reaches over all that is left
@@ -147,10 +153,12 @@ module _ {cells : List ℕ} {P : ℕ → Type 0} where
         })
         (λ d a. rw (c d) (reach-here t e d (omega arith)))
 
+    -- it is marked anew or its mark is raised, and the pass goes on `far` words ahead
     met : {s′ : Seen} (far : ℕ) → 0 < far → far ≤ left → ((d : ℕ) → d < far → (d < getD (s .marks) j 0) ⊎ (d ≡ 0))
         → Marks cells P (entries cells) j left s s′
         → (l : Looking)
-        → (Roomy (entries cells) s′ → Reaching cells (s′ .marks) code (j + far) (j + far + (left - far)) → Words cells P (λ d. f (far + d)) (left - far) (j + far) s′ l)
+        → (Roomy (entries cells) s′ → Reaching cells (s′ .marks) code (j + far) (j + far + (left - far))
+        → Words cells P (λ d. f (far + d)) (left - far) (j + far) s′ l)
         → Words cells P f left j s l
     met {s′} far q h near m l go =
         let y : j + left ≡ j + far + (left - far) = omega arith in
@@ -159,14 +167,13 @@ module _ {cells : List ℕ} {P : ℕ → Type 0} where
         l
         (go (m .roomy) (rw (m .set-to, ← y) (goes-on far t e o (omega (arith, r .long)) q near)))
 
-  -- a pass over words of one code, with what it has met so far
+  -- the pass from entry j on, with what it has met so far
   alike-from : (code deep left j : ℕ) (s : Seen) {f : ℕ → ℕ} → ((d : ℕ) → f d ≡ code) → left ≤ deep → j + left ≤ entries cells
       → Roomy (entries cells) s → Reaching cells (s .marks) code j (j + left)
       → Joins cells P f left j
       → Words cells P f left j s (lookAlike cells code deep left j s)
   unfolding lookAlike
-  alike-from code zero left j s c l b r t p =
-      words-on (grown-none s) (record { roomy = r; reach = reached t (λ k h m. absurd (omega arith)) }) (λ d h. absurd (omega arith))
+  alike-from code zero left j s c l b r t p = none-left (omega arith) r t
   alike-from code (suc deep) left j s {f} c l b r t p =
       choose-told (Words cells P f left j s) (ltb 0 left) _ (λ _. on s)
       (λ u. let o : 0 < left = ltb-true 0 left u in
@@ -190,15 +197,15 @@ module _ {cells : List ℕ} {P : ℕ → Type 0} where
       (later p (getD (s .marks) j 0) (left - getD (s .marks) j 0) (omega arith))))))
       (λ v. words-off (λ all. eqb-false (entryAt cells j 2) code v
       (let y : j + 0 ≡ j = omega arith in (rw y at (all 0 o)) ∙ c 0))))
-      (λ u. let z : left ≤ 0 = ltb-false 0 left u in
-      words-on (grown-none s) (record { roomy = r; reach = reached t (λ k h m. absurd (omega arith)) }) (λ d h. absurd (omega arith)))
+      (λ u. none-left (ltb-false 0 left u) r t)
 
-  -- a pass over words of one code
+  -- the whole pass
   pub alike : (code left j : ℕ) (s : Seen) {f : ℕ → ℕ} → ((d : ℕ) → f d ≡ code) → j + left ≤ entries cells → Fit cells s
       → Joins cells P f left j
       → Words cells P f left j s (lookAlike cells code left left j s)
   alike code left j s c b t p = alike-from code left left j s c (omega arith) b (t .roomy) (reaching (t .reach)) p
 
+  -- ---- fields
   -- entry j by itself: if it is new it reaches no further
   by-itself : {code j : ℕ} {s : Seen} → Fit cells s → j < entries cells → entryAt cells j 2 ≡ code → P j → One cells P code j s (marked code 1 j s)
   unfolding marked
@@ -220,7 +227,7 @@ module _ {cells : List ℕ} {P : ℕ → Type 0} where
           rw (ne-eqb (getD (s .marks) j 0) 0 n)
           (record { grown = grown-none s; fit = t; known = record { code-is = e; marked = n } })
 
-  -- a pass over fields
+  -- the pass from the i-th field on
   pub fields : (structs types : List ℕ) (code first left i : ℕ) (s : Seen) {f : ℕ → ℕ} → ((d : ℕ) → f d ≡ claim structs types code (i + d))
       → first + i + left ≤ entries cells → Fit cells s
       → Joins cells P f left (first + i)

@@ -1,5 +1,5 @@
-// The literal check: one pass over the literals in node order. What a literal covers is marked and queued, and what was queued is
-// looked at in turn. Marks stay from literal to literal: what was found good stays good.
+// The literal check: one pass over the literals in node order. What a literal covers is marked, what of it can need other words is queued,
+// and what was queued is looked at in turn. Marks stay from literal to literal: what was found good stays good.
 ghost use Prim.Native.Nat.{_+_, _<_, _≤_, _^_};
 ghost use mathlib.Core.Path.{_≡_};
 ghost use Rattle.judge.specs.Marks.{seen};
@@ -43,7 +43,8 @@ fn claim(structs: &[u64], types: &[u64], code: u64, i: usize) -> u64
     type_code(types, of)
 }
 
-// `count` entries from `first` on have the codes that a pointer to a struct claims: then they are marked.
+// `count` entries from `first` on have the codes that a pointer to a struct claims: then they are marked. Fields are few and each has a code
+// of its own, so a field's mark reaches no further than the field.
 fn look_fields(
     marks: &mut [u64],
     queue: &mut [u64],
@@ -73,7 +74,9 @@ fn look_fields(
     Looked::On(end)
 }
 
-// `count` entries from `first` on have this code: then they are marked. What a mark knows to be alike isn't looked at again.
+// `count` entries from `first` on have this code: then they are marked. What a mark reaches over has the same code and is passed over. Each
+// mark that is met is raised to reach as far as these entries do, so that the next pass over them takes one step from there: otherwise
+// every pass would take the small steps again. If an entry is off, the marks that were raised too far are asked for no more.
 fn look_alike(
     marks: &mut [u64],
     queue: &mut [u64],
@@ -147,15 +150,8 @@ fn look(
             needed,
         );
     }
-    look_alike(
-        marks,
-        queue,
-        cells,
-        tail,
-        claim(structs, types, code, 0),
-        first,
-        needed,
-    )
+    let alike = claim(structs, types, code, 0);
+    look_alike(marks, queue, cells, tail, alike, first, needed)
 }
 
 // A literal and all that is reached from it: the entries that join the queue are looked at in turn. The look is called in one place, so

@@ -1,4 +1,6 @@
-// Marks, one for each entry of the cell table, and the queue of marked entries: each entry is put into it once.
+// Marks, one for each entry of the cell table, and the queue of entries whose words are still to be looked at: each is put into it once.
+// A mark is 0, or its entry was seen and the mark is its reach: so many entries from it on were seen and have its code. A word that lies
+// in many arrays is then not looked at for each of them.
 ghost use Prim.Native.Nat.{_+_, _<_};
 ghost use mathlib.Core.Path.{_≡_};
 ghost use lib.ListN.{length, replicate};
@@ -18,8 +20,8 @@ pub fn wipe(marks: &mut [u64])
     }
 }
 
-// Entry j, of this code, is marked, and put into the queue if words of its code can need others. Nothing happens if it is marked already
-// or the queue is full. Answers where the queue ends.
+// Entry j, of this code, is marked, and put into the queue if words of its code can need others: those of an odd code, int or an unchecked
+// pointer, never do. Nothing happens if it is marked already or the queue is full. Answers where the queue ends.
 pub fn mark(
     marks: &mut [u64],
     queue: &mut [u64],

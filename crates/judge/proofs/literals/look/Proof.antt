@@ -60,7 +60,7 @@ same-length-4 c = search needs
 
 returns-4 : tie.Need-returns-4
 unfolding look
-returns-4 c = rw (← c .before .before .before .before .before .before .before .before .before .before .before .before .span .ensures, ne-eqb _ 0 (c .before .before .before .before .before .before .before .before .before .before .before .if1 .left), ← c .before .before .before .before .before .before .before .before .before .before .covered .ensures, ne-eqb _ _ (c .before .before .before .before .before .before .before .before .before .if2 .left), ne-eqb _ 2 (c .before .before .before .before .before .before .before .before .if3 .left), c .before .before .before .before .look-alike .ensures, c .before .before .before .before .before .claim .ensures)
+returns-4 c = rw (← c .before .before .before .before .before .before .before .before .before .before .before .before .span .ensures, ne-eqb _ 0 (c .before .before .before .before .before .before .before .before .before .before .before .if1 .left), ← c .before .before .before .before .before .before .before .before .before .before .covered .ensures, ne-eqb _ _ (c .before .before .before .before .before .before .before .before .before .if2 .left), ne-eqb _ 2 (c .before .before .before .before .before .before .before .before .if3 .left), c .before .before .before .before .look-alike .ensures, c .before .before .before .before .before .before .before .claim .ensures)
 
 pub look-spec : {M : Type 1} → statement M
 look-spec =

@@ -31,8 +31,8 @@ module _ {cells : List ℕ} {code stop : ℕ} {start : Looking} {marks₀ queue�
       go (suc deep) = rw (le-ltb 0 left h)
 
   module _ (m : Passing cells code stop start marks₀ queue₀ marks queue end j left) (h : 0 < left) {e : ℕ} (is-e : e ≡ entryAt cells j 2) where
-    -- what the pass comes to, by what is found at entry j
-    opened : (start ≡ lookAlike cells code (suc (m .deep - 1)) left j (seen marks queue end))
+    -- the pass meets at least one entry
+    opened : start ≡ lookAlike cells code (suc (m .deep - 1)) left j (seen marks queue end)
     opened = let f : m .deep ≡ suc (m .deep - 1) = omega (arith, m .enough) in rw f at (m .same)
 
     stops : (e ≡ code → ⊥) → off marks queue ≡ start
