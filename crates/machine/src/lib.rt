@@ -1,6 +1,7 @@
 // The machine: it runs a script over the lent heap as "Steps" and "How a run ends" say. The expression stays as loaded, in the node
-// table; nodes whose part is being evaluated wait in lent frames, and bound values stand in a lent list. A value is a number with the
-// code of its kind throughout, so that nothing is taken apart and put together again on the way from table to table.
+// table; nodes whose part is being evaluated wait in lent frames, and bound values stand in a lent list. There a value is a number with
+// the code of its kind, so that nothing is taken apart and put together again on the way; a word of the heap is read and assigned as a
+// cell.
 use calculus::Outcome;
 
 // Where the machine stands. In focus is the node of number `at` where `code` is 0, else the value `at` that a part gave, with the code
