@@ -16,9 +16,11 @@ mod tables;
 mod walk;
 mod write;
 
+pub use broken::broken;
 pub use dice::Dice;
+pub use mutate::mutated;
 pub use outline::{outline, Outline};
-pub use settings::{before, Before, Limit, Setting};
+pub use settings::{before, settings, Before, Limit, Setting};
 pub use write::{bytes, Role};
 
 pub mod parts {
