@@ -18,7 +18,7 @@ pub fn judge_image(image: &[u8], words: usize) -> Judged
     let mut types = [0u64; 256];
     let mut cells = [0u64; 12288];
     let mut nodes = [0u64; 8192];
-    let mut marks = [0u64; 4096];
+    let mut marks = [0u16; 4096];
     let mut queue = [0u64; 4096];
     let mut bound = [0u64; 256];
     judge_in(
@@ -46,7 +46,7 @@ fn judge_in(
     types: &mut [u64],
     cells: &mut [u64],
     nodes: &mut [u64],
-    marks: &mut [u64],
+    marks: &mut [u16],
     queue: &mut [u64],
     bound: &mut [u64],
     image: &[u8],

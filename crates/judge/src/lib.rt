@@ -41,7 +41,7 @@ pub fn judge_script(
     types: &[u64],
     cells: &[u64],
     nodes: &[u64],
-    marks: &mut [u64],
+    marks: &mut [u16],
     queue: &mut [u64],
     bound: &mut [u64],
 ) -> Judged

@@ -7,6 +7,8 @@ ghost use Rattle.judge.specs.Literals.{span, claim, lookFields, lookAlik
 use crate::Looked;
 use crate::find::covered;
 use crate::marks::mark;
+use crate::marks::mark_at;
+use crate::marks::put_mark;
 use crate::marks::wipe;
 use crate::tables::entry;
 use crate::tables::field_at;
@@ -15,7 +17,6 @@ use crate::tables::row;
 use crate::tables::size_of;
 use crate::tables::type_code;
 use crate::tables::wide;
-use cells::put;
 use cells::word;
 
 // How many words a literal needs: those that its target covers, if it is a checked pointer other than 0.
@@ -46,7 +47,7 @@ fn claim(structs: &[u64], types: &[u64], code: u64, i: usize) -> u64
 // `count` entries from `first` on have the codes that a pointer to a struct claims: then they are marked. Fields are few and each has a code
 // of its own, so a field's mark reaches no further than the field.
 fn look_fields(
-    marks: &mut [u64],
+    marks: &mut [u16],
     queue: &mut [u64],
     structs: &[u64],
     types: &[u64],
@@ -78,7 +79,7 @@ fn look_fields(
 // mark that is met is raised to reach as far as these entries do, so that the next pass over them takes one step from there: otherwise
 // every pass would take the small steps again. If an entry is off, the marks that were raised too far are asked for no more.
 fn look_alike(
-    marks: &mut [u64],
+    marks: &mut [u16],
     queue: &mut [u64],
     cells: &[u64],
     tail: usize,
@@ -86,7 +87,7 @@ fn look_alike(
     first: usize,
     count: usize,
 ) -> Looked
-    requires { ⌜ first + count < 2 ^ 64 ⌝ }
+    requires { ⌜ (first + count < 2 ^ 64) × (count < 65536) ⌝ }
     ensures { λ r. ⌜ looking r (now (marks .exit)) (now (queue .exit))
         ≡ lookAlike (now (cells .entry)) code count count first (seen (now (marks .entry)) (now (queue .entry)) tail) ⌝ }
 {
@@ -97,7 +98,7 @@ fn look_alike(
         if entry(cells, j, 2) != code {
             return Looked::Off;
         }
-        let known = word(marks, j);
+        let known = mark_at(marks, j);
         if known == 0 {
             end = mark(marks, queue, end, j, code, wide(left));
             j += 1;
@@ -106,7 +107,7 @@ fn look_alike(
             if wide(left) <= known {
                 return Looked::On(end);
             }
-            put(marks, j, wide(left));
+            put_mark(marks, j, wide(left));
             let far = index(known);
             j += far;
             left -= far;
@@ -117,7 +118,7 @@ fn look_alike(
 
 // The words that a literal needs are there and have the codes claimed: then they are marked.
 fn look(
-    marks: &mut [u64],
+    marks: &mut [u16],
     queue: &mut [u64],
     structs: &[u64],
     types: &[u64],
@@ -157,7 +158,7 @@ fn look(
 // A literal and all that is reached from it: the entries that join the queue are looked at in turn. The look is called in one place, so
 // that the compiler can put it there and a word that needs no other costs no call.
 fn literal(
-    marks: &mut [u64],
+    marks: &mut [u16],
     queue: &mut [u64],
     structs: &[u64],
     types: &[u64],
@@ -191,7 +192,7 @@ fn literal(
 
 // Node i, if it is a literal.
 fn node_look(
-    marks: &mut [u64],
+    marks: &mut [u16],
     queue: &mut [u64],
     structs: &[u64],
     types: &[u64],
@@ -215,7 +216,7 @@ fn node_look(
 
 // The number of the first literal that isn't well typed over the cells; the count of nodes if there is none.
 pub fn first_bad(
-    marks: &mut [u64],
+    marks: &mut [u16],
     queue: &mut [u64],
     structs: &[u64],
     types: &[u64],

@@ -1,11 +1,14 @@
 -- `judge::literals::look` looks for a literal's words and marks them. Assumes nothing.
 use mathlib.Core.Path.{_≡_}
 use mathlib.Core.List.{List}
-use Prim.Native.Nat.{ℕ, _+_, _-_, _<_}
+use Prim.Native.Nat.{ℕ, _+_, _-_, _<_, _%_}
 use native.Mathlib.Omega.{arith}
 use borrow.Author.Tests.{eq-eqb, ne-eqb}
+use lib.Dec.{eqb}
+use Rattle.choice.specs.Choice.{choose-case}
+use Rattle.judge.specs.Tables.{tagIn, sizeOf}
 use Rattle.judge.specs.Find.{covered, entries}
-use Rattle.judge.specs.Literals.{look}
+use Rattle.judge.specs.Literals.{span, look}
 use Rattle.judge.proofs.Room.{covered-fits}
 use borrow.Author.Needs.{needs}
 use Rattle.judge.proofs.literals.look.Statement.{statement}
@@ -15,6 +18,18 @@ use Rattle.judge.proofs.literals.look.Tie as tie
 found-within : (cells : List ℕ) (value needed first : ℕ) → first ≡ covered cells value (needed - 1) → (first ≡ entries cells → ⊥)
     → first + (needed - 1) < entries cells
 found-within cells value needed first e n = rw e (covered-fits cells value (needed - 1) .fits (rw e at n))
+
+-- what isn't a struct has fewer than 65,536 words
+few-words : (structs : List ℕ) (value code needed : ℕ) → needed ≡ span structs value code → (tagIn code ≡ 2 → ⊥) → needed < 65536
+unfolding span sizeOf
+few-words structs value code needed e n =
+    rw e
+    (choose-case (λ k. k < 65536) (eqb value 0) _ _ (omega arith)
+    (choose-case (λ k. k < 65536) (eqb (code % 2) 0) _ _
+    (choose-case (λ k. k < 65536) (eqb (tagIn code) 1) _ _ (omega arith)
+    (rw (ne-eqb (tagIn code) 2 n)
+    (choose-case (λ k. k < 65536) (eqb (tagIn code) 3) _ _ (omega arith) (omega arith))))
+    (omega arith)))
 
 span-requires : tie.Need-span-requires
 span-requires c κs = search needs
@@ -50,7 +65,7 @@ claim-requires : tie.Need-claim-requires
 claim-requires c κs = search needs
 
 look-alike-requires : tie.Need-look-alike-requires
-look-alike-requires c κs = let h = found-within _ _ (c .before .before .before .before .before .before .before .span .result) _ (c .before .before .before .before .before .covered .ensures) (c .before .before .before .before .if2 .left) in omega arith
+look-alike-requires c κs = let h = found-within _ _ (c .before .before .before .before .before .before .before .span .result) _ (c .before .before .before .before .before .covered .ensures) (c .before .before .before .before .if2 .left) in (omega arith, few-words _ _ _ _ (c .before .before .before .before .before .before .before .span .ensures) (c .before .before .before .if3 .left))
 
 same-length-3 : tie.Need-same-length-3
 same-length-3 c = search needs

@@ -17,6 +17,7 @@ record Passing (cells : List ℕ) (code stop : ℕ) (start : Looking) (marks₀ 
   far : j + left ≡ stop
   deep : ℕ
   enough : left ≤ deep
+  small : left < 65536
   same : start ≡ lookAlike cells code deep left j (seen marks queue end)
   long : length marks ≡ length marks₀
   long-queue : length queue ≡ length queue₀
@@ -49,6 +50,7 @@ module _ {cells : List ℕ} {code stop : ℕ} {start : Looking} {marks₀ queue�
             far = omega (arith, m .far);
             deep = m .deep - 1;
             enough = omega (arith, m .enough);
+            small = omega (arith, m .small);
             same = opened ∙ rw (lt-ltb 0 left h, ← is-e, eq-eqb e code q, ← is-known, z, ← is-w, ← is);
             long = k ∙ m .long;
             long-queue = l ∙ m .long-queue;
@@ -67,6 +69,7 @@ module _ {cells : List ℕ} {code stop : ℕ} {start : Looking} {marks₀ queue�
               far = omega (arith, m .far);
               deep = m .deep - 1;
               enough = omega (arith, m .enough, n);
+              small = omega (arith, m .small);
               same = opened ∙ rw (lt-ltb 0 left h, ← is-e, eq-eqb e code q, ← is-known, ne-eqb known 0 n, ← is-w, lt-leb w known a, is-far, is, is-v, is-w);
               long = rw is (simp length-set (m .long));
               long-queue = m .long-queue;
@@ -80,7 +83,7 @@ abbrev μ-loop : tie.MeasureT-loop
 μ-loop marks₀ queue₀ cells tail code first count end₀ j₀ left₀ marks queue end j left = left
 
 loop-holds : tie.Need-loop-holds Inv-loop μ-loop
-loop-holds c = record { far = refl; deep = c .before .before .before .args .count; enough = omega arith; same = refl; long = refl; long-queue = refl }
+loop-holds c = record { far = refl; deep = c .before .before .before .args .count; enough = omega arith; small = c .before .before .before .pre .1; same = refl; long = refl; long-queue = refl }
 
 entry-requires : tie.Need-entry-requires Inv-loop μ-loop
 entry-requires c κs = search needs
@@ -94,14 +97,14 @@ same-length-2 c = c .before .before .before .loop .inv .long-queue
 returns : tie.Need-returns Inv-loop μ-loop
 returns c = stops (c .before .before .before .loop .inv) (c .before .before .loop-test .taken) (c .before .entry .ensures) (c .if1 .taken)
 
-word-requires : tie.Need-word-requires Inv-loop μ-loop
-word-requires c κs = search needs
+mark-at-requires : tie.Need-mark-at-requires Inv-loop μ-loop
+mark-at-requires c κs = search needs
 
 wide-requires : tie.Need-wide-requires Inv-loop μ-loop
 wide-requires c κs = search needs
 
 mark-requires : tie.Need-mark-requires Inv-loop μ-loop
-mark-requires c κs = search needs
+mark-requires c κs = omega (arith, c .before .before .before .before .before .before .before .before .before .loop .inv .small, c .wide .ensures)
 
 add-j : tie.Need-add-j Inv-loop μ-loop
 add-j c = search needs
@@ -113,7 +116,7 @@ loop-less : tie.Need-loop-less Inv-loop μ-loop
 loop-less c = search needs
 
 loop-again : tie.Need-loop-again Inv-loop μ-loop
-loop-again c = new (c .before .before .before .before .before .before .before .before .before .before .before .before .before .before .loop .inv) (c .before .before .before .before .before .before .before .before .before .before .before .before .before .loop-test .taken) (c .before .before .before .before .before .before .before .before .before .before .before .before .entry .ensures) (c .before .before .before .before .before .before .before .before .before .before .before .if1 .left) (c .before .before .before .before .before .before .before .before .before .word .ensures) (c .before .before .before .before .before .before .before .before .if2 .taken) (c .before .before .before .before .before .wide .ensures) (c .before .before .before .before .mark .ensures) (c .before .before .before .before .mark .kept .0) (c .before .before .before .before .mark .kept .1 .0)
+loop-again c = new (c .before .before .before .before .before .before .before .before .before .before .before .before .before .before .loop .inv) (c .before .before .before .before .before .before .before .before .before .before .before .before .before .loop-test .taken) (c .before .before .before .before .before .before .before .before .before .before .before .before .entry .ensures) (c .before .before .before .before .before .before .before .before .before .before .before .if1 .left) (c .before .before .before .before .before .before .before .before .before .mark-at .ensures) (c .before .before .before .before .before .before .before .before .if2 .taken) (c .before .before .before .before .before .wide .ensures) (c .before .before .before .before .mark .ensures) (c .before .before .before .before .mark .kept .0) (c .before .before .before .before .mark .kept .1 .0)
 
 wide-requires-2 : tie.Need-wide-requires-2 Inv-loop μ-loop
 wide-requires-2 c κs = search needs
@@ -125,19 +128,19 @@ same-length-4 : tie.Need-same-length-4 Inv-loop μ-loop
 same-length-4 c = c .before .before .before .before .before .before .before .before .loop .inv .long-queue
 
 returns-2 : tie.Need-returns-2 Inv-loop μ-loop
-returns-2 c = rest-known (c .before .before .before .before .before .before .before .before .loop .inv) (c .before .before .before .before .before .before .before .loop-test .taken) (c .before .before .before .before .before .before .entry .ensures) (c .before .before .before .before .before .if1 .left) (c .before .before .before .word .ensures) (c .before .before .if2 .left) (c .before .wide2 .ensures) (c .if3 .taken)
+returns-2 c = rest-known (c .before .before .before .before .before .before .before .before .loop .inv) (c .before .before .before .before .before .before .before .loop-test .taken) (c .before .before .before .before .before .before .entry .ensures) (c .before .before .before .before .before .if1 .left) (c .before .before .before .mark-at .ensures) (c .before .before .if2 .left) (c .before .wide2 .ensures) (c .if3 .taken)
 
 wide-requires-3 : tie.Need-wide-requires-3 Inv-loop μ-loop
 wide-requires-3 c κs = search needs
 
-put-requires : tie.Need-put-requires Inv-loop μ-loop
-put-requires c κs = search needs
+put-mark-requires : tie.Need-put-mark-requires Inv-loop μ-loop
+put-mark-requires c κs = omega (arith, c .before .before .before .before .before .before .before .before .before .before .loop .inv .small, c .wide3 .ensures)
 
 index-requires : tie.Need-index-requires Inv-loop μ-loop
 index-requires c κs = search needs
 
 add-j-2 : tie.Need-add-j-2 Inv-loop μ-loop
-add-j-2 c = omega (arith, c .before .before .before .before .before .before .before .before .before .before .before .before .before .before .loop .inv .far, c .before .before .before .before .before .before .before .before .before .before .before .before .before .before .before .before .before .before .pre, c .index .ensures, c .before .before .before .before .before .before .before .wide2 .ensures, c .before .before .before .before .before .before .if3 .left)
+add-j-2 c = omega (arith, c .before .before .before .before .before .before .before .before .before .before .before .before .before .before .loop .inv .far, c .before .before .before .before .before .before .before .before .before .before .before .before .before .before .before .before .before .before .pre .0, c .index .ensures, c .before .before .before .before .before .before .before .wide2 .ensures, c .before .before .before .before .before .before .if3 .left)
 
 sub-left-2 : tie.Need-sub-left-2 Inv-loop μ-loop
 sub-left-2 c = omega (arith, c .index .ensures, c .before .before .before .before .before .before .before .wide2 .ensures, c .before .before .before .before .before .before .if3 .left)
@@ -146,7 +149,7 @@ loop-less-2 : tie.Need-loop-less-2 Inv-loop μ-loop
 loop-less-2 c = omega (arith, c .index .ensures, c .before .before .before .before .before .before .before .wide2 .ensures, c .before .before .before .before .before .before .if3 .left, c .before .before .before .before .before .before .before .before .if2 .left)
 
 loop-again-2 : tie.Need-loop-again-2 Inv-loop μ-loop
-loop-again-2 c = raised (c .before .before .before .before .before .before .before .before .before .before .before .before .before .before .loop .inv) (c .before .before .before .before .before .before .before .before .before .before .before .before .before .loop-test .taken) (c .before .before .before .before .before .before .before .before .before .before .before .before .entry .ensures) (c .before .before .before .before .before .before .before .before .before .before .before .if1 .left) (c .before .before .before .before .before .before .before .before .before .word .ensures) (c .before .before .before .before .before .before .before .before .if2 .left) (c .before .before .before .before .before .before .before .wide2 .ensures) (c .before .before .before .before .before .before .if3 .left) (c .before .before .before .before .wide3 .ensures) (c .before .before .before .put .ensures) (c .index .ensures)
+loop-again-2 c = raised (c .before .before .before .before .before .before .before .before .before .before .before .before .before .before .loop .inv) (c .before .before .before .before .before .before .before .before .before .before .before .before .before .loop-test .taken) (c .before .before .before .before .before .before .before .before .before .before .before .before .entry .ensures) (c .before .before .before .before .before .before .before .before .before .before .before .if1 .left) (c .before .before .before .before .before .before .before .before .before .mark-at .ensures) (c .before .before .before .before .before .before .before .before .if2 .left) (c .before .before .before .before .before .before .before .wide2 .ensures) (c .before .before .before .before .before .before .if3 .left) (c .before .before .before .before .wide3 .ensures) (c .before .before .before .put-mark .ensures) (c .index .ensures)
 
 same-length-5 : tie.Need-same-length-5 Inv-loop μ-loop
 same-length-5 c = c .before .loop .inv .long
@@ -168,7 +171,7 @@ look-alike-spec =
     same-length
     same-length-2
     returns
-    word-requires
+    mark-at-requires
     wide-requires
     mark-requires
     add-j
@@ -180,7 +183,7 @@ look-alike-spec =
     same-length-4
     returns-2
     wide-requires-3
-    put-requires
+    put-mark-requires
     index-requires
     add-j-2
     sub-left-2
