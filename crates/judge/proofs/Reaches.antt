@@ -13,7 +13,7 @@ use lib.Seq.{getD-set-same, getD-set-other}
 use borrow.Author.Tests.{eqb-true, eqb-false, ltb-true, ltb-false, leb-true, leb-false, ne-eqb}
 use Rattle.judge.specs.Tables.{entryAt}
 use Rattle.judge.specs.Find.{entries}
-use Rattle.judge.specs.Marks.{Seen, marked}
+use Rattle.judge.specs.Marks.{Seen, alone, marked}
 use Rattle.judge.specs.Literals.{Looking, on, off, claim, lookAlike, lookFields}
 use Rattle.judge.proofs.Room.{choose-told}
 use Rattle.judge.proofs.Marked.{Marked, Roomy, Grown, grown-none, grown-then, Marks, marks-new, marks-raised, set-is, set-still}
@@ -207,21 +207,21 @@ module _ {cells : List ℕ} {P : ℕ → Type 0} where
 
   -- ---- fields
   -- entry j by itself: if it is new it reaches no further
-  by-itself : {code j : ℕ} {s : Seen} → Fit cells s → j < entries cells → entryAt cells j 2 ≡ code → P j → One cells P code j s (marked code 1 j s)
+  by-itself : {code j : ℕ} {s : Seen} → Fit cells s → j < entries cells → entryAt cells j 2 ≡ code → P j → One cells P code j s (marked code alone j s)
   unfolding marked
   by-itself {code} {j} {s} t b e p = go (ℕ-discrete (getD (s .marks) j 0) 0)
     where
-      go : Dec (getD (s .marks) j 0 ≡ 0) → One cells P code j s (marked code 1 j s)
+      go : Dec (getD (s .marks) j 0 ≡ 0) → One cells P code j s (marked code alone j s)
       go (yes z) =
-          let m = marks-new {P = P} j 1 s (omega arith) (t .roomy) b code e z p in
+          let m = marks-new {P = P} j alone s (omega arith) (t .roomy) b code e z p in
           let l : j < length (s .marks) = omega (arith, t .roomy .long) in
           record {
             grown = m .grown;
             fit = record {
               roomy = m .roomy;
-              reach = rw (m .set-to) (reached (goes-on {code = code} {left = 1} 1 (reaching (t .reach)) e (omega arith) l (omega arith) (λ d h. inr (omega arith))) (λ k f g. absurd (omega arith)));
+              reach = rw (m .set-to) (reached (goes-on {code = code} {left = alone} 1 (reaching (t .reach)) e (omega arith) l (omega arith) (λ d h. inr (omega arith))) (λ k f g. absurd (omega arith)));
             };
-            known = record { code-is = e; marked = rw (m .set-to) (set-is (s .marks) j 1 (omega arith) l) };
+            known = record { code-is = e; marked = rw (m .set-to) (set-is (s .marks) j alone (omega arith) l) };
           }
       go (no n) =
           rw (ne-eqb (getD (s .marks) j 0) 0 n)
@@ -240,7 +240,7 @@ module _ {cells : List ℕ} {P : ℕ → Type 0} where
       let g : f 0 ≡ claim structs types code i = rw x at (c 0) in
       choose-told (Words cells P f (suc left) (first + i) s) (eqb (entryAt cells (first + i) 2) (claim structs types code i)) _ (λ _. off (s .marks) (s .queue))
       (λ v. let e : entryAt cells (first + i) 2 ≡ claim structs types code i = eqb-true _ _ v in
-      let m : One cells P (claim structs types code i) (first + i) s (marked (claim structs types code i) 1 (first + i) s) =
+      let m : One cells P (claim structs types code i) (first + i) s (marked (claim structs types code i) alone (first + i) s) =
       by-itself t (omega arith) e (rw y at (p .each 0 (omega arith) (rw y (e ∙ sym g)))) in
       let a : first + (i + 1) ≡ first + i + 1 = omega arith in
       words-then {far = 1} (omega arith) (m .grown)

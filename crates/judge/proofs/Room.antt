@@ -10,7 +10,7 @@ use borrow.Author.Tests.{ltb-true, leb-false}
 use Rattle.choice.specs.Choice.{choose, choose-case}
 use Rattle.judge.specs.Tables.{entryAt, rowAt, tagIn}
 use Rattle.judge.specs.Find.{present, covered, entries, place}
-use Rattle.judge.specs.Marks.{Seen, seen, marked}
+use Rattle.judge.specs.Marks.{Seen, seen, alone, marked}
 use Rattle.judge.specs.Literals.{Looking, on, off, span, claim, lookAlike, lookFields, lookWords, look, drain, literal, nodeLook, thenLook}
 
 -- a property of a choice, with the test's outcome in hand
@@ -103,8 +103,8 @@ module _ (structs types cells : List ℕ) where
   fields-after code first zero i s = after-on (keeps-none s)
   fields-after code first (suc left) i s =
       choose-case (After s) (eqb (entryAt cells (first + i) 2) (claim structs types code i)) _ (λ _. off (s .marks) (s .queue))
-      (more-after (keeps-marked (claim structs types code i) 1 (first + i) s) _
-      (fields-after code first left (i + 1) (marked (claim structs types code i) 1 (first + i) s)))
+      (more-after (keeps-marked (claim structs types code i) alone (first + i) s) _
+      (fields-after code first left (i + 1) (marked (claim structs types code i) alone (first + i) s)))
       after-off
 
   pub look-after : (value code : ℕ) (s : Seen) → After s (look structs types cells value code s)

@@ -8,7 +8,7 @@ use Rattle.choice.specs.Choice.{choose}
 use Rattle.cells.specs.Code.{numberIn}
 use Rattle.judge.specs.Tables.{rowAt, entryAt, fieldAt, codeOf, tagIn, sizeOf}
 use Rattle.judge.specs.Find.{entries, covered}
-use Rattle.judge.specs.Marks.{Seen, seen, marked}
+use Rattle.judge.specs.Marks.{Seen, seen, alone, marked}
 use Rattle.judge.specs.declared.Looked.{Looked}
 use Rattle.judge.specs.declared.Looked.the-variants.{On, Off}
 
@@ -69,7 +69,7 @@ module _ (structs types cells : List ℕ) where
   lookFields code first zero i s = on s
   lookFields code first (suc left) i s =
       choose (eqb (entryAt cells (first + i) 2) (claim structs types code i))
-      (λ _. lookFields code first left (i + 1) (marked (claim structs types code i) 1 (first + i) s))
+      (λ _. lookFields code first left (i + 1) (marked (claim structs types code i) alone (first + i) s))
       (λ _. off (s .marks) (s .queue))
 
   -- `count` entries from `first` on are the words that a pointer needs: fields have each a code of its own, all else is alike

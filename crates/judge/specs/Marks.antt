@@ -15,6 +15,10 @@ pub record Seen : Type 0 where
 abbrev pub seen : List ℕ → List ℕ → ℕ → Seen
 seen marks queue tail = record { marks = marks; queue = queue; tail = tail }
 
+-- the reach of a field's mark: the field behind it may have another code
+abbrev pub alone : ℕ
+alone = 1
+
 -- entry j, of this code, is seen: marked with this reach, and put into the queue unless words of its code never need others. Nothing
 -- happens if it is marked already or the queue is full.
 unfoldable pub marked : (code reach j : ℕ) → Seen → Seen

@@ -8,7 +8,7 @@ use native.Mathlib.Omega.{arith}
 use lib.ListN.{length}
 use borrow.Author.Tests.{eq-eqb, ne-eqb}
 use Rattle.judge.specs.Tables.{entryAt}
-use Rattle.judge.specs.Marks.{seen, marked}
+use Rattle.judge.specs.Marks.{seen, alone, marked}
 use Rattle.judge.specs.Literals.{Looking, on, off, claim, lookFields}
 use Rattle.judge.proofs.literals.look_fields.Statement.{statement}
 use Rattle.judge.proofs.literals.look_fields.Tie as tie
@@ -36,7 +36,7 @@ module _ {structs types cells : List ℕ} {code first count : ℕ} {start : Look
         let f : count - i ≡ suc (count - (i + 1)) = omega arith in
         sym (m .same ∙ rw (f, ← is-e, ← is-kind, ne-eqb e kind n))
 
-    turn : e ≡ kind → {marks′ queue′ : List ℕ} {end′ : ℕ} → seen marks′ queue′ end′ ≡ marked kind 1 (first + i) (seen marks queue end)
+    turn : e ≡ kind → {marks′ queue′ : List ℕ} {end′ : ℕ} → seen marks′ queue′ end′ ≡ marked kind alone (first + i) (seen marks queue end)
         → length marks′ ≡ length marks → length queue′ ≡ length queue
         → Passing structs types cells code first count start marks₀ queue₀ marks′ queue′ end′ (i + 1)
     unfolding lookFields
