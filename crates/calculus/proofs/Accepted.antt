@@ -16,21 +16,17 @@ use Rattle.cells.specs.declared.Mode.the-variants.{Checked}
 use Rattle.cells.specs.declared.Kind.{Kind}
 use Rattle.cells.specs.declared.Kind.the-variants.{Int, Word, Struct, Array}
 use Rattle.calculus.specs.Setting.{Setting, kindOf, fieldsOf, size}
-use Rattle.calculus.specs.Expr.{Expr, lit, var, malloc, bind, one, two, nodes, One, unchecked, cast, read, field, Two, assign, sum, pointer}
+use Rattle.calculus.specs.Expr.{Expr, lit, var, malloc, bind, one, two, nodes, One, unchecked, cast, read, field, Two, act, pointer, inside}
+use Rattle.calculus.specs.declared.Act.{Act}
+use Rattle.calculus.specs.declared.Act.the-variants.{Assign, Sum}
 use Rattle.calculus.specs.Literal.{literalWell}
-use Rattle.calculus.specs.Typing.{Role, whole, access, follows, castable, Bound, here, out, Element, of-word, of-array, Typed, t-var, t-lit, t-let, t-malloc, t-unchecked, t-cast, t-field, t-sum, t-read, t-assign, t-pointer, t-index}
-use Rattle.calculus.specs.Judge.{Verdict, good, bad, thenJudge, accessRule, oneRule, sumRule, twoRule, oneRole, twoRole, inside, judge, judged}
+use Rattle.calculus.specs.Typing.{Role, whole, access, actRole, follows, castable, Bound, here, out, Element, of-word, of-array, ActTyped, act-assign, act-sum, Typed, t-var, t-lit, t-let, t-malloc, t-unchecked, t-cast, t-field, t-act, t-read, t-pointer, t-index}
+use Rattle.calculus.specs.Judge.{Verdict, good, bad, thenJudge, accessRule, oneRule, sumRule, actRule, twoRule, oneRole, twoRole, judge, judged}
+use Rattle.calculus.specs.FirstFault.{Has, has-type, has-array}
 use Rattle.calculus.specs.declared.Fault.{Fault}
 use Rattle.calculus.proofs.Same.{holds, same-kind, kind-same}
 use Rattle.calculus.proofs.Literals.{literal-test}
 use Rattle.calculus.proofs.Apart.{differ}
-
--- What the judge answers of an expression: its type; or, where it is the pointer of an access and a sum of an array pointer and an
--- int, "the access has that array pointer".
-pub data Has (S : Setting) (H : Heap) : Role → List Kind → Mode → Expr → Kind → Type 0 where
-  has-type : {r : Role} {Γ : List Kind} {m : Mode} {e : Expr} {κ : Kind} → Typed S H whole Γ m e κ → Has S H r Γ m e κ
-  has-array : {Γ : List Kind} {m m′ : Mode} {a b : Expr} {k n : ℕ}
-      → Typed S H whole Γ m a (Array m′ k n) → Typed S H whole Γ m b Int → Has S H access Γ m (two sum a b) (Array m′ k n)
 
 -- What a verdict says of the expression judged: it has the type.
 data Sound (S : Setting) (H : Heap) (r : Role) (Γ : List Kind) (m : Mode) (e : Expr) : Verdict → Type 0 where
@@ -99,21 +95,26 @@ module _ {S : Setting} {H : Heap} {Γ : List Kind} {m : Mode} {r : Role} where
       test-sound (ltb f (length (fieldsOf S s))) _ _ _ (λ t. typed (has-type (t-field (has-whole h) (ltb→lt f _ t))))
   one-sound i (field f) e (Array m′ k n) h = refused
 
-  -- The rules of a node with two parts.
-  two-sound : (i : ℕ) (o : Two) (a b : Expr) (κ κ′ : Kind)
-      → Has S H (twoRole o) Γ m a κ → Has S H whole Γ m b κ′ → Sound S H r Γ m (two o a b) (twoRule S m i r o κ κ′)
-  two-sound i assign a b κ κ′ h h′ =
+  -- The rule of what is done with two values.
+  act-sound : (i : ℕ) (o : Act) (a b : Expr) (κ κ′ : Kind)
+      → Has S H (actRole o) Γ m a κ → Has S H whole Γ m b κ′ → Sound S H r Γ m (two (act o) a b) (actRule S m i r o κ κ′)
+  act-sound i Assign a b κ κ′ h h′ =
       access-sound i κ _ λ m′ ε el f.
-      test-sound (sameKind κ′ ε) _ _ _ (λ t. typed (has-type (t-assign (has-access h el f) (must-be κ′ ε t h′))))
-  two-sound i sum a b κ κ′ h h′ = sum-sound r κ h
+      test-sound (sameKind κ′ ε) _ _ _ (λ t. typed (has-type (t-act (has-access h el f) (must-be κ′ ε t h′) act-assign)))
+  act-sound i Sum a b κ κ′ h h′ = sum-sound r κ h
     where
-      sum-sound : (r : Role) (κ : Kind) → Has S H whole Γ m a κ → Sound S H r Γ m (two sum a b) (sumRule S m i r κ κ′)
-      sum-sound r Int h = test-sound (sameKind κ′ Int) _ _ _ (λ t. typed (has-type (t-sum (has-whole h) (must-be κ′ Int t h′))))
+      sum-sound : (r : Role) (κ : Kind) → Has S H whole Γ m a κ → Sound S H r Γ m (two (act Sum) a b) (sumRule S m i r κ κ′)
+      sum-sound r Int h = test-sound (sameKind κ′ Int) _ _ _ (λ t. typed (has-type (t-act (has-whole h) (must-be κ′ Int t h′) act-sum)))
       sum-sound r (Word m′ n) h = refused
       sum-sound r (Struct m′ s) h = refused
       sum-sound whole (Array m′ k n) h = refused
       sum-sound access (Array m′ k n) h =
           test-sound (sameKind κ′ Int) _ _ _ (λ t. typed (has-array (has-whole h) (must-be κ′ Int t h′)))
+
+  -- The rules of a node with two parts.
+  two-sound : (i : ℕ) (o : Two) (a b : Expr) (κ κ′ : Kind)
+      → Has S H (twoRole o) Γ m a κ → Has S H whole Γ m b κ′ → Sound S H r Γ m (two o a b) (twoRule S m i r o κ κ′)
+  two-sound i (act o) a b κ κ′ h h′ = act-sound i o a b κ κ′ h h′
 
   -- A let has its body's type.
   let-sound : {a b : Expr} {κ : Kind} {v : Verdict}
@@ -136,21 +137,21 @@ sound S H r Γ m i (two o a b) =
     (λ κ h. then-sound _ (sound S H whole Γ m (suc i + nodes a) b) (λ κ′ h′. two-sound i o a b κ κ′ h h′))
 
 -- What the judge answers where an expression has type κ: that type, as a whole; a pointer through which κ is accessed, as an access.
-pub data Answers (S : Setting) (m : Mode) : Role → Verdict → Kind → Type 0 where
-  answers : {v : Verdict} {κ : Kind} → v ≡ good κ → Answers S m whole v κ
-  points : {v : Verdict} {m′ : Mode} {κ ε : Kind} → v ≡ good κ → Element S κ m′ ε → T (follows m m′) → Answers S m access v ε
+pub data Replies (S : Setting) (m : Mode) : Role → Verdict → Kind → Type 0 where
+  replies : {v : Verdict} {κ : Kind} → v ≡ good κ → Replies S m whole v κ
+  points : {v : Verdict} {m′ : Mode} {κ ε : Kind} → v ≡ good κ → Element S κ m′ ε → T (follows m m′) → Replies S m access v ε
 
 -- The answer for a whole.
-the : {S : Setting} {m : Mode} {v : Verdict} {κ : Kind} → Answers S m whole v κ → v ≡ good κ
-the (answers q) = q
+the : {S : Setting} {m : Mode} {v : Verdict} {κ : Kind} → Replies S m whole v κ → v ≡ good κ
+the (replies q) = q
 
 -- The first constructor as a function, whose arguments are found from the goal.
-answer : {S : Setting} {m : Mode} {v : Verdict} {κ : Kind} → v ≡ good κ → Answers S m whole v κ
-answer q = answers q
+answer : {S : Setting} {m : Mode} {v : Verdict} {κ : Kind} → v ≡ good κ → Replies S m whole v κ
+answer q = replies q
 
 -- The second one.
 point : {S : Setting} {m m′ : Mode} {v : Verdict} {κ ε : Kind}
-    → v ≡ good κ → Element S κ m′ ε → T (follows m m′) → Answers S m access v ε
+    → v ≡ good κ → Element S κ m′ ε → T (follows m m′) → Replies S m access v ε
 point q el f = points q el f
 
 module _ (S : Setting) (m : Mode) (i : ℕ) where
@@ -160,13 +161,15 @@ module _ (S : Setting) (m : Mode) (i : ℕ) where
   access-good {m′} go of-array f = rw (holds (follows m m′) f)
 
   -- The rule of a read.
-  read-good : {v : Verdict} {ε : Kind} → Answers S m access v ε → thenJudge v (oneRule S m i read) ≡ good ε
+  read-good : {v : Verdict} {ε : Kind} → Replies S m access v ε → thenJudge v (oneRule S m i read) ≡ good ε
   read-good (points q el f) = rw q (access-good good el f)
 
-  -- The rule of an assign.
-  assign-good : {v v′ : Verdict} {ε : Kind} (r : Role)
-      → Answers S m access v ε → v′ ≡ good ε → thenJudge v (λ κ. thenJudge v′ (twoRule S m i r assign κ)) ≡ good ε
-  assign-good {ε} r (points q el f) q′ = rw (q, q′) (access-good _ el f ∙ rw (holds (sameKind ε ε) (kind-same ε)))
+  -- The rule of what is done with two values.
+  act-good : {o : Act} {v v′ : Verdict} {κ κ′ κ″ : Kind} → ActTyped o κ κ′ κ″
+      → Replies S m (actRole o) v κ → v′ ≡ good κ′ → thenJudge v (λ κ. thenJudge v′ (actRule S m i whole o κ)) ≡ good κ″
+  unfolding sameKind
+  act-good (act-assign {ε}) (points q el f) q′ = rw (q, q′) (access-good _ el f ∙ rw (holds (sameKind ε ε) (kind-same ε)))
+  act-good act-sum (replies q) q′ = rw (q, q′)
 
   -- A sum judged as a whole has the same type as the pointer of an access.
   sum-access : {κ : Kind} (v v′ : Verdict) → thenJudge v (λ κ. thenJudge v′ (sumRule S m i whole κ)) ≡ good κ
@@ -178,6 +181,12 @@ module _ (S : Setting) (m : Mode) (i : ℕ) where
   sum-access (good κ) (bad f j) q = q
   sum-access (bad f j) v′ q = q
 
+  -- So has whatever is done with two values.
+  act-access : {κ : Kind} (o : Act) (v v′ : Verdict) → thenJudge v (λ κ. thenJudge v′ (actRule S m i whole o κ)) ≡ good κ
+      → thenJudge v (λ κ. thenJudge v′ (actRule S m i access o κ)) ≡ good κ
+  act-access Assign v v′ q = q
+  act-access Sum v v′ q = sum-access v v′ q
+
 -- A pointer has one element type.
 one-element : {S : Setting} {κ κ′ ε ε′ : Kind} {m m′ : Mode} → Element S κ m ε → Element S κ′ m′ ε′ → κ ≡ κ′ → ε ≡ ε′
 one-element {S} (of-word {n}) (of-word {n = n′}) q = let p : n ≡ n′ = cc in ap (kindOf S) p
@@ -186,8 +195,8 @@ one-element of-array of-word q = differ cc
 one-element {S} (of-array {n}) (of-array {n = n′}) q = let p : n ≡ n′ = cc in ap (kindOf S) p
 
 -- A verdict answers one type, in either role.
-one-answer : {S : Setting} {m : Mode} {r : Role} {v : Verdict} {κ κ′ : Kind} → Answers S m r v κ → Answers S m r v κ′ → κ ≡ κ′
-one-answer (answers q) (answers q′) = cc
+one-answer : {S : Setting} {m : Mode} {r : Role} {v : Verdict} {κ κ′ : Kind} → Replies S m r v κ → Replies S m r v κ′ → κ ≡ κ′
+one-answer (replies q) (replies q′) = cc
 one-answer (points q el f) (points q′ el′ f′) = one-element el el′ cc
 
 -- A variable's number is below the count of lets.
@@ -210,13 +219,12 @@ module _ (S : Setting) (H : Heap) where
   whole-access Γ m i (malloc ω) q = q
   whole-access Γ m i (bind a b) q = q
   whole-access Γ m i (one o e) q = q
-  whole-access Γ m i (two assign a b) q = q
-  whole-access Γ m i (two sum a b) q =
-      sum-access S m i (judge S H whole Γ m (suc i) a) (judge S H whole Γ m (suc i + nodes a) b) q
+  whole-access Γ m i (two (act o) a b) q =
+      act-access S m i o (judge S H (actRole o) Γ m (suc i) a) (judge S H whole Γ m (suc i + nodes a) b) q
 
   -- Where an expression has a type, the judge answers it.
   complete : {r : Role} {Γ : List Kind} {m : Mode} {e : Expr} {κ : Kind}
-      → Typed S H r Γ m e κ → (i : ℕ) → Answers S m r (judge S H r Γ m i e) κ
+      → Typed S H r Γ m e κ → (i : ℕ) → Replies S m r (judge S H r Γ m i e) κ
   unfolding judge sameKind
   complete (t-var {Γ} {k} b) i = answer (rw (lt-ltb k (length Γ) (bound-lt b), bound-kind b))
   complete (t-lit {n} {κ} w) i = answer (rw (holds (literalWell S H n κ) (literal-test S H n κ .1 w)))
@@ -225,38 +233,37 @@ module _ (S : Setting) (H : Heap) where
   complete (t-unchecked d) i = answer (rw (the (complete d (suc i))))
   complete (t-cast {m} {κ} t d) i = answer (rw (the (complete d (suc i)), holds (castable m κ) t))
   complete (t-field {s} {i = f} d l) i = answer (rw (the (complete d (suc i)), lt-ltb f (length (fieldsOf S s)) l))
-  complete (t-sum {a} d d′) i = answer (rw (the (complete d (suc i)), the (complete d′ (suc i + nodes a))))
+  complete (t-act {m} d d′ t) i = answer (act-good S m i t (complete d (suc i)) (the (complete d′ _)))
   complete (t-read {m} d) i = answer (read-good S m i (complete d (suc i)))
-  complete (t-assign {m} d d′) i = answer (assign-good S m i whole (complete d (suc i)) (the (complete d′ _)))
   complete (t-pointer {Γ} {m} {e} d el f) i = points (whole-access Γ m i e (the (complete d i))) el f
   complete (t-index {a} {k} d d′ f) i =
       point (rw (the (complete d (suc i)), the (complete d′ (suc i + nodes a)))) (of-array {k = k}) f
 
   -- What the judge answers, the expression has.
-  pub found : {κ : Kind} (r : Role) (Γ : List Kind) (m : Mode) (i : ℕ) (e : Expr)
+  pub judged-has : {κ : Kind} (r : Role) (Γ : List Kind) (m : Mode) (i : ℕ) (e : Expr)
       → judge S H r Γ m i e ≡ good κ → Has S H r Γ m e κ
-  found r Γ m i e q = sound-good (sound S H r Γ m i e) q
+  judged-has r Γ m i e q = sound-good (sound S H r Γ m i e) q
 
   -- What the expression has, the judge answers.
-  pub answered : (r : Role) {Γ : List Kind} {m : Mode} {e : Expr} {κ : Kind}
+  pub has-judged : (r : Role) {Γ : List Kind} {m : Mode} {e : Expr} {κ : Kind}
       → Has S H r Γ m e κ → (i : ℕ) → judge S H r Γ m i e ≡ good κ
   unfolding judge sameKind
-  answered whole (has-type d) i = the (complete d i)
-  answered access (has-type {Γ} {m} {e} d) i = whole-access Γ m i e (the (complete d i))
-  answered access (has-array {a} d d′) i = rw (the (complete d (suc i)), the (complete d′ (suc i + nodes a)))
+  has-judged whole (has-type d) i = the (complete d i)
+  has-judged access (has-type {Γ} {m} {e} d) i = whole-access Γ m i e (the (complete d i))
+  has-judged access (has-array {a} d d′) i = rw (the (complete d (suc i)), the (complete d′ (suc i + nodes a)))
 
   -- The judge answers a type exactly if the expression has it, at whatever number its root has.
   pub judge-right : (Γ : List Kind) (m : Mode) (i : ℕ) (e : Expr) (κ : Kind)
       → (judge S H whole Γ m i e ≡ good κ) ↔ Typed S H whole Γ m e κ
-  judge-right Γ m i e κ = (λ q. has-whole (found whole Γ m i e q), λ d. answered whole (has-type d) i)
+  judge-right Γ m i e κ = (λ q. has-whole (judged-has whole Γ m i e q), λ d. has-judged whole (has-type d) i)
 
   -- An access through an expression has type ε exactly if the judge answers a pointer that may be followed to ε.
   pub access-right : (Γ : List Kind) (m : Mode) (i : ℕ) (e : Expr) (ε : Kind)
-      → Answers S m access (judge S H access Γ m i e) ε ↔ Typed S H access Γ m e ε
+      → Replies S m access (judge S H access Γ m i e) ε ↔ Typed S H access Γ m e ε
   access-right Γ m i e ε = (from, λ d. complete d i)
     where
-      from : Answers S m access (judge S H access Γ m i e) ε → Typed S H access Γ m e ε
-      from (points q el f) = has-access (found access Γ m i e q) el f
+      from : Replies S m access (judge S H access Γ m i e) ε → Typed S H access Γ m e ε
+      from (points q el f) = has-access (judged-has access Γ m i e q) el f
 
   -- The theorem: a script is accepted with a type exactly if the paper's rules give it that type.
   pub accepted : (e : Expr) (κ : Kind) → (judged S H e ≡ good κ) ↔ Typed S H whole [] Checked e κ

@@ -20,20 +20,19 @@ use Rattle.cells.specs.declared.HeapWord.the-variants.{Holds}
 use Rattle.cells.specs.declared.Run.{Run}
 use Rattle.cells.specs.declared.Run.the-variants.{From, Nowhere}
 use Rattle.calculus.specs.Setting.{Setting, cell, kindOf, fieldsOf, size, isChecked, checkedPointer, checkedEmpty}
-use Rattle.calculus.specs.Expr.{Expr, lit, bind, one, two, unchecked, cast, read, field, assign, sum, Target, pointer}
+use Rattle.calculus.specs.Expr.{Expr, lit, bind, one, two, unchecked, cast, read, field, act, Target, pointer}
+use Rattle.calculus.specs.declared.Act.{Act}
+use Rattle.calculus.specs.declared.Act.the-variants.{Assign, Sum}
 use Rattle.calculus.specs.Literal.{WellLit, t-base}
-use Rattle.calculus.specs.Typing.{Role, whole, access, follows, castable, Element, of-word, of-array, Typed, t-var, t-lit, t-let, t-malloc, t-unchecked, t-cast, t-field, t-sum, t-read, t-assign, t-pointer, t-index}
-use Rattle.calculus.specs.Steps.{Step, done, stuck, halt, next, step, frame, Redex, blocked, halts, gives, redexStep, definedThen, wordThen, sumRedex, fieldRedex, takenFrom, mallocRedex, oneRedex, twoRedex, Halt, null, bounds, added}
+use Rattle.calculus.specs.Typing.{Role, whole, access, actRole, follows, castable, Element, of-word, of-array, ActTyped, act-assign, act-sum, Typed, t-var, t-lit, t-let, t-malloc, t-unchecked, t-cast, t-field, t-act, t-read, t-pointer, t-index}
+use Rattle.calculus.specs.Steps.{Step, done, stuck, halt, next, step, frame, Redex, blocked, halts, gives, redexStep, definedThen, wordThen, sumRedex, fieldRedex, takenFrom, mallocRedex, oneRedex, actRedex, added}
+use Rattle.calculus.specs.GoodEnd.{Sized}
+use Rattle.calculus.specs.declared.Halt.{Halt}
+use Rattle.calculus.specs.declared.Halt.the-variants.{Null, Bounds}
 use Rattle.calculus.proofs.Same.{holds-one, refuted}
 use Rattle.calculus.proofs.Scope.{Defined}
 use Rattle.calculus.proofs.Growth.{Kept, kept-well, self-kept, assign-kept, malloc-kept, malloc-checked, malloc-well, sum-well, field-well, defined-word}
 use Rattle.calculus.proofs.Substitution.{replacement}
-
--- The heap fits the setting: malloc uses only addresses of the heap, and every address of the heap is a number of the script's width.
-pub record Sized (S : Setting) (H : Heap) : Type 0 where
-  pub above : 0 < S .low
-  pub within : S .high ≤ length H
-  pub wide : length H < 2 ^ (S .width)
 
 -- Over a heap that keeps every type, an expression keeps its type.
 pub typed-kept : {S : Setting} {H H′ : Heap} {r : Role} {Γ : List Kind} {m : Mode} {e : Expr} {κ : Kind}
@@ -45,9 +44,8 @@ typed-kept k (t-malloc l) = t-malloc l
 typed-kept k (t-unchecked e) = t-unchecked (typed-kept k e)
 typed-kept k (t-cast t e) = t-cast t (typed-kept k e)
 typed-kept k (t-field e l) = t-field (typed-kept k e) l
-typed-kept k (t-sum a b) = t-sum (typed-kept k a) (typed-kept k b)
+typed-kept k (t-act a b t) = t-act (typed-kept k a) (typed-kept k b) t
 typed-kept k (t-read e) = t-read (typed-kept k e)
-typed-kept k (t-assign p e) = t-assign (typed-kept k p) (typed-kept k e)
 typed-kept k (t-pointer e el f) = t-pointer (typed-kept k e) el f
 typed-kept k (t-index a b f) = t-index (typed-kept k a) (typed-kept k b) f
 
@@ -134,7 +132,7 @@ module _ {S : Setting} {H : Heap} where
       let (w, el) = checked-access d in rw (element-checked el) (null-test w el (eqb n 0) refl (checkedEmpty κ) refl)
     where
       null-test : WellLit S H [] n κ → Element S κ Checked ε → (t : Bool) → eqb n 0 ≡ t → (u : Bool) → checkedEmpty κ ≡ u
-          → Safe S H r κ′ (choose (both true t) (λ _. halts null) λ _. choose u (λ _. halts bounds) (λ _. definedThen (look H n) go))
+          → Safe S H r κ′ (choose (both true t) (λ _. halts Null) λ _. choose u (λ _. halts Bounds) (λ _. definedThen (look H n) go))
       null-test w el true q u p = safe-halt
       null-test w el false q true p = safe-halt
       null-test w el false q false p =
@@ -153,7 +151,7 @@ module _ {S : Setting} {H : Heap} where
   index-safe {c} {t} Checked n k wide f w = go (eqb n 0) refl
     where
       go : (z : Bool) → eqb n 0 ≡ z
-          → Safe S H access (kindOf S t) (choose (both true z) (λ _. halts null) (λ _. gives H (added S n k) (Array Checked (c - k) t)))
+          → Safe S H access (kindOf S t) (choose (both true z) (λ _. halts Null) (λ _. gives H (added S n k) (Array Checked (c - k) t)))
       go true q = safe-halt
       go false q = safe-value (self-kept S H) (t-pointer (t-lit (sum-well wide w (eqb-false n 0 q) k)) of-array tt)
   index-safe Unchecked n k wide f w = absurd f
@@ -168,7 +166,7 @@ module _ {S : Setting} {H : Heap} where
       κ = Word m (getD (fieldsOf S s) f 0)
 
       go : (z : Bool) → both (isChecked m) (eqb n 0) ≡ z
-          → Safe S H whole κ (choose z (λ _. halts null) (λ _. gives H (added S n f) κ))
+          → Safe S H whole κ (choose z (λ _. halts Null) (λ _. gives H (added S n f) κ))
       go true q = safe-halt
       go false q = same-heap (field-well wide w l (λ c. eqb-false n 0 (rw c at q)))
 
@@ -197,6 +195,12 @@ module _ {S : Setting} {H : Heap} where
       → Safe S H whole κ (gives (update H n (cell k κ)) k κ)
   assign-safe n there w = let k = assign-kept n there w in safe-value k (t-lit (kept-well k w))
 
+  -- What is done with two values, the first judged in the operation's role.
+  act-safe : {o : Act} {κ κ₁ κ₂ κ₃ : Kind} (n k : ℕ) → ActTyped o κ₁ κ₂ κ₃ → Typed S H (actRole o) [] Checked (lit n κ) κ₁
+      → WellLit S H [] k κ₂ → Safe S H whole κ₃ (actRedex S H o n κ k κ₂)
+  act-safe {κ} n k act-assign d w = word-safe n κ _ d (λ v there w′. assign-safe n there w)
+  act-safe n k act-sum (t-lit w′) w = int-safe n k
+
 -- The theorem: a well-typed closed expression is fine, in either role and mode.
 pub blame : {S : Setting} {H : Heap} {r : Role} {m : Mode} {e : Expr} {κ : Kind}
     → Sized S H → Typed S H r [] m e κ → Fine S H r m κ (step S m H e)
@@ -213,19 +217,15 @@ blame sized (t-cast {m} {κ} t d) =
 blame sized (t-field {m} {m′} {i} d l) =
     frame-whole (one (field i)) _ (blame sized d) (λ H′ k e d. t-field d l)
     (λ n w. redex-fine m _ (λ c. field-safe m′ n (sized .wide) l w))
-blame sized (t-sum {m} {b} da db) =
-    frame-whole (λ a. two sum a b) _ (blame sized da) (λ H′ k e d. t-sum d (typed-kept k db)) λ n w.
-    frame-whole (two sum (lit n Int)) _ (blame sized db) (λ H′ k e d. t-sum (t-lit (kept-well k w)) d)
-    (λ k w′. redex-fine m _ (λ c. int-safe n k))
+blame {S} {H} sized (t-act {m} {o} {b} {κ′} da db t) =
+    frame-fine (λ a. two (act o) a b) _ (blame sized da) (λ H′ k e d. t-act d (typed-kept k db) t) λ n κ d.
+    frame-whole (two (act o) (lit n κ)) _ (blame sized db) (λ H′ k e d′. t-act (typed-kept k d) d′ t)
+    (λ v w. redex-fine m (actRedex S H o n κ v κ′) (λ c. act-safe n v t (rw c at d) w))
 blame {S} {H} sized (t-read {m} d) =
     frame-fine (one read) _ (blame sized d) (λ H′ k e d. t-read d)
     (λ n κ d. redex-fine m (oneRedex S H read n κ) (λ c. word-safe n κ _ (rw c at d) (λ v there w. same-heap w)))
-blame {S} {H} sized (t-assign {m} {e} {ε} dp de) =
-    frame-fine (λ p. two assign p e) _ (blame sized dp) (λ H′ k e d. t-assign d (typed-kept k de)) λ n κ d.
-    frame-whole (two assign (lit n κ)) _ (blame sized de) (λ H′ k e d′. t-assign (typed-kept k d) d′)
-    (λ v w. redex-fine m (twoRedex S H assign n κ v ε) (λ c. word-safe n κ _ (rw c at d) (λ v′ there w′. assign-safe n there w)))
 blame sized (t-pointer d el f) = pointer-fine el f (blame sized d)
 blame sized (t-index {m} {m′} {b} {k = c} {n = t} da db f) =
-    frame-whole (λ a. two sum a b) _ (blame sized da) (λ H′ k e d. t-index d (typed-kept k db) f) λ n w.
-    frame-whole (two sum (lit n (Array m′ c t))) _ (blame sized db) (λ H′ k e d. t-index (t-lit (kept-well k w)) d f)
+    frame-whole (λ a. two (act Sum) a b) _ (blame sized da) (λ H′ k e d. t-index d (typed-kept k db) f) λ n w.
+    frame-whole (two (act Sum) (lit n (Array m′ c t))) _ (blame sized db) (λ H′ k e d. t-index (t-lit (kept-well k w)) d f)
     (λ k w′. redex-fine m _ (λ c. index-safe m′ n k (sized .wide) (rw c at f) w))

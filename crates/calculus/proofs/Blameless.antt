@@ -11,40 +11,28 @@ use Rattle.cells.specs.declared.Mode.the-variants.{Checked, Unchecked}
 use Rattle.cells.specs.declared.Kind.{Kind}
 use Rattle.cells.specs.declared.Cell.{Cell}
 use Rattle.calculus.specs.Setting.{Setting, cell}
-use Rattle.calculus.specs.Expr.{Expr}
+use Rattle.calculus.specs.Expr.{Expr, NoBlock}
 use Rattle.calculus.specs.Literal.{WellLit}
 use Rattle.calculus.specs.Typing.{whole, Typed, t-lit}
-use Rattle.calculus.specs.Steps.{Step, Halt, null, bounds, room}
-use Rattle.calculus.specs.Run.{Result, run, atLimit, onward, haltEnd, firstAfter}
+use Rattle.calculus.specs.Steps.{Step}
+use Rattle.calculus.specs.Run.{Result, run, atLimit, onward, firstAfter}
+use Rattle.calculus.specs.GoodEnd.{Sized, GoodEnd, good-value, good-halt, good-more}
 use Rattle.calculus.specs.declared.End.{End}
-use Rattle.calculus.specs.declared.End.the-variants.{Value, Null, Bounds, Room, Stuck, More}
+use Rattle.calculus.specs.declared.End.the-variants.{Value, Stuck}
 use Rattle.calculus.proofs.Apart.{differ}
-use Rattle.calculus.proofs.Blame.{Sized, Fine, is-value, is-stuck, is-halt, is-unchecked, is-typed, blame}
-use Rattle.calculus.proofs.Steady.{Long, every-next, step-long, NoBlock, no-block}
-
--- A good end of a script of type κ, over the heap H that its run leaves: a value of type κ that is well typed over H; a halt; or the
--- limit. Stuck is none.
-pub data GoodEnd (S : Setting) (H : Heap) (κ : Kind) : End → Type 0 where
-  good-value : {n : ℕ} → WellLit S H [] n κ → GoodEnd S H κ (Value (cell n κ))
-  good-null : GoodEnd S H κ Null
-  good-bounds : GoodEnd S H κ Bounds
-  good-room : GoodEnd S H κ Room
-  good-more : GoodEnd S H κ More
-
--- A halt is a good end.
-halt-good : {S : Setting} {H : Heap} {κ : Kind} (h : Halt) → GoodEnd S H κ (haltEnd h)
-halt-good null = good-null
-halt-good bounds = good-bounds
-halt-good room = good-room
+use Rattle.calculus.proofs.Blame.{Fine, is-value, is-stuck, is-halt, is-unchecked, is-typed, blame}
+use Rattle.calculus.proofs.Every.{every-next}
+use Rattle.calculus.proofs.Changes.{Long, step-long}
+use Rattle.calculus.proofs.NoBlock.{no-block}
 
 -- Where a step and then the rest hold no unchecked step, neither does the rest.
-first-after : (m : Mode) (first : ℕ) → firstAfter m first ≡ 0 → first ≡ 0
+pub first-after : (m : Mode) (first : ℕ) → firstAfter m first ≡ 0 → first ≡ 0
 first-after Checked zero q = refl
 first-after Checked (suc first) q = absurd (omega arith)
 first-after Unchecked first q = absurd (omega arith)
 
 -- A heap as long is sized as well.
-sized-long : {S : Setting} {H H′ : Heap} → Sized S H → length H′ ≡ length H → Sized S H′
+pub sized-long : {S : Setting} {H H′ : Heap} → Sized S H → length H′ ≡ length H → Sized S H′
 sized-long sized l = record { above = sized .above; within = rw l (sized .within); wide = rw l (sized .wide) }
 
 module _ {S : Setting} {H : Heap} {κ : Kind} where
@@ -64,7 +52,7 @@ module _ {S : Setting} {H : Heap} {κ : Kind} where
       → (onward H s go) .outcome .first ≡ 0 → GoodEnd S ((onward H s go) .heap) κ ((onward H s go) .outcome .end)
   onward-good go sized (is-value (t-lit w)) l rest q = good-value w
   onward-good go sized is-stuck l rest q = absurd (omega arith)
-  onward-good go sized (is-halt {h}) l rest q = halt-good h
+  onward-good go sized is-halt l rest q = good-halt
   onward-good go sized is-unchecked l rest q = absurd (omega arith)
   onward-good go sized (is-typed {m′} k d) (every-next l) rest q = rest _ _ (sized-long sized l) d (first-after m′ _ q)
 
@@ -81,17 +69,13 @@ good-well : {S : Setting} {H : Heap} {κ : Kind} {end : End} (c : Cell)
     → GoodEnd S H κ end → end ≡ Value c → (c .kind ≡ κ) × WellLit S H [] (c .value) (c .kind)
 good-well {S} {H} {κ} c (good-value {n} w) q =
     let p : cell n κ ≡ c = cc in subst (λ (c : Cell). (c .kind ≡ κ) × WellLit S H [] (c .value) (c .kind)) p (refl, w)
-good-well c good-null q = differ cc
-good-well c good-bounds q = differ cc
-good-well c good-room q = differ cc
+good-well c good-halt q = differ cc
 good-well c good-more q = differ cc
 
 -- A good end is not Stuck.
 good-moves : {S : Setting} {H : Heap} {κ : Kind} {end : End} → GoodEnd S H κ end → end ≡ Stuck → ⊥
 good-moves (good-value w) q = differ cc
-good-moves good-null q = differ cc
-good-moves good-bounds q = differ cc
-good-moves good-room q = differ cc
+good-moves good-halt q = differ cc
 good-moves good-more q = differ cc
 
 module _ (S : Setting) (H : Heap) (e : Expr) (κ : Kind) (limit : ℕ)

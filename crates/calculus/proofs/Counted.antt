@@ -10,11 +10,12 @@ use Rattle.cells.specs.declared.Mode.the-variants.{Checked}
 use Rattle.cells.specs.declared.Kind.{Kind}
 use Rattle.cells.specs.declared.Cell.{Cell}
 use Rattle.calculus.specs.Setting.{Setting, cell}
-use Rattle.calculus.specs.Expr.{Expr, lit, var, malloc, bind, one, two, pointer, operators}
-use Rattle.calculus.specs.Judge.{inside}
-use Rattle.calculus.specs.Steps.{Step, done, stuck, halt, next, step, frame, replace, Redex, blocked, halts, gives, redexStep, mallocRedex, oneRedex, twoRedex, Halt, null, bounds, room}
-use Rattle.calculus.specs.Run.{Result, run, result, atLimit, onward, haltEnd, firstAt}
-use Rattle.calculus.specs.declared.End.the-variants.{Value, Stuck, More}
+use Rattle.calculus.specs.Expr.{Expr, lit, var, malloc, bind, one, two, act, pointer, operators, inside}
+use Rattle.calculus.specs.Steps.{Step, done, stuck, halt, next, step, frame, replace, Redex, blocked, halts, gives, redexStep, mallocRedex, oneRedex, actRedex}
+use Rattle.calculus.specs.declared.Halt.{Halt}
+use Rattle.calculus.specs.Run.{Result, run, result, atLimit, onward, firstAt}
+use Rattle.calculus.specs.Counts.{Counts, Allowed}
+use Rattle.calculus.specs.declared.End.the-variants.{Value, Halted, Stuck, More}
 use Rattle.calculus.proofs.Apart.{differ}
 
 -- Replacing a variable keeps the operators.
@@ -63,10 +64,10 @@ step-lowers S m H (bind a b) =
 step-lowers S m H (one o e) =
     frame-lowers _ 0 _ (one o) (step S (inside o m) H e) _ (omega arith) (λ e′. omega arith) (step-lowers S (inside o m) H e)
     (λ q v κ. redex-lowers _ m (oneRedex S H o v κ) q)
-step-lowers S m H (two o a b) =
-    frame-lowers _ (operators b) _ (λ a′. two o a′ b) (step S m H a) _ refl (λ a′. refl) (step-lowers S m H a) λ q v κ.
-    frame-lowers _ 0 _ (two o (lit v κ)) (step S m H b) _ (omega arith) (λ b′. omega arith) (step-lowers S m H b)
-    (λ q v′ κ′. redex-lowers _ m (twoRedex S H o v κ v′ κ′) q)
+step-lowers S m H (two (act o) a b) =
+    frame-lowers _ (operators b) _ (λ a′. two (act o) a′ b) (step S m H a) _ refl (λ a′. refl) (step-lowers S m H a) λ q v κ.
+    frame-lowers _ 0 _ (two (act o) (lit v κ)) (step S m H b) _ (omega arith) (λ b′. omega arith) (step-lowers S m H b)
+    (λ q v′ κ′. redex-lowers _ m (actRedex S H o v κ v′ κ′) q)
 
 -- The same of one step by itself.
 pub lowered : (S : Setting) (m m′ : Mode) (H H′ : Heap) (e e′ : Expr)
@@ -79,62 +80,48 @@ lowered S m m′ H H′ e e′ q = from (operators e) (step S m H e) (step-lower
     from n (halt h m) p q = differ cc
     from n (next H e m) (lower p) q = cc
 
--- What a run of an expression of n operators says of its steps.
-pub record Counts (limit n : ℕ) (r : Result) : Type 0 where
-  -- no run takes more steps than the expression has operators
-  pub few : r .outcome .steps ≤ n
-  -- .. nor more than it may take
-  pub allowed : r .outcome .steps ≤ limit
-  -- a run that ends with Value takes exactly as many
-  pub all : (c : Cell) → r .outcome .end ≡ Value c → r .outcome .steps ≡ n
-  -- More is given only if the limit's steps were taken
-  pub spent : r .outcome .end ≡ More → r .outcome .steps ≡ limit
-
--- A halt's end is no value.
-halt-value : (h : Halt) (c : Cell) → haltEnd h ≡ Value c → _≡_ {A = ℕ} 0 1
-halt-value null c e = cc
-halt-value bounds c e = cc
-halt-value room c e = cc
-
--- A halt's end is not More.
-halt-more : (h : Halt) → haltEnd h ≡ More → _≡_ {A = ℕ} 0 1
-halt-more null e = cc
-halt-more bounds e = cc
-halt-more room e = cc
-
--- A run that is at a value.
-value-counts : (limit n : ℕ) (c : Cell) (H : Heap) → n ≡ 0 → Counts limit n (result (Value c) 0 0 H)
-value-counts limit n c H q = record { few = omega arith; allowed = omega arith; all = λ c e. sym q; spent = λ e. differ cc }
-
--- A run that is stuck.
-stuck-counts : (limit n first : ℕ) (H : Heap) → Counts limit n (result Stuck 0 first H)
-stuck-counts limit n first H = record { few = omega arith; allowed = omega arith; all = λ c e. differ cc; spent = λ e. differ cc }
-
--- A run that has come to its limit, and is neither.
-more-counts : (n : ℕ) (H : Heap) → Counts 0 n (result More 0 0 H)
-more-counts n H = record { few = omega arith; allowed = omega arith; all = λ c e. differ cc; spent = λ e. refl }
-
 -- A run that may take no step.
-limit-counts : (n : ℕ) (H : Heap) (s : Step) → Lowers n s → Counts 0 n (atLimit H s)
-limit-counts n H (done v κ) (no-operator q) = value-counts 0 n (cell v κ) H q
-limit-counts n H (stuck m) p = stuck-counts 0 n (firstAt m) H
-limit-counts n H (halt h m) p = more-counts n H
-limit-counts n H (next H′ e m) p = more-counts n H
+limit-counts : (n : ℕ) (H : Heap) (s : Step) → Lowers n s → Counts n (atLimit H s)
+limit-counts n H (done v κ) (no-operator q) = record { few = omega arith; all = λ c e. sym q; left = λ e. differ cc }
+limit-counts n H (stuck m) p = record { few = omega arith; all = λ c e. differ cc; left = λ e. differ cc }
+limit-counts n H (halt h m) (ends p) = record { few = omega arith; all = λ c e. differ cc; left = λ e. p }
+limit-counts n H (next H′ e m) (lower q) = record { few = omega arith; all = λ c e. differ cc; left = λ e. omega arith }
 
 -- A run that may take a step, and what comes after it.
-onward-counts : (limit n : ℕ) (H : Heap) (s : Step) (go : Heap → Expr → Result)
-    → ((H : Heap) (e : Expr) → Counts limit (operators e) (go H e)) → Lowers n s → Counts (suc limit) n (onward H s go)
-onward-counts limit n H (done v κ) go rest (no-operator q) = value-counts (suc limit) n (cell v κ) H q
-onward-counts limit n H (stuck m) go rest p = stuck-counts (suc limit) n (firstAt m) H
-onward-counts limit n H (halt h m) go rest (ends p) =
-    record { few = p; allowed = omega arith; all = λ c e. differ (halt-value h c e); spent = λ e. differ (halt-more h e) }
-onward-counts limit n H (next H′ e m) go rest (lower q) =
+onward-counts : (n : ℕ) (H : Heap) (s : Step) (go : Heap → Expr → Result)
+    → ((H : Heap) (e : Expr) → Counts (operators e) (go H e)) → Lowers n s → Counts n (onward H s go)
+onward-counts n H (done v κ) go rest (no-operator q) = record { few = omega arith; all = λ c e. sym q; left = λ e. differ cc }
+onward-counts n H (stuck m) go rest p = record { few = omega arith; all = λ c e. differ cc; left = λ e. differ cc }
+onward-counts n H (halt h m) go rest (ends p) = record { few = p; all = λ c e. differ cc; left = λ e. differ cc }
+onward-counts n H (next H′ e m) go rest (lower q) =
     let r = rest H′ e in
-    record { few = omega arith; allowed = omega arith; all = λ c v. ap suc (r .all c v) ∙ sym q; spent = λ v. ap suc (r .spent v) }
+    record { few = omega (arith, r .few); all = λ c v. ap suc (r .all c v) ∙ sym q; left = λ v. omega (arith, r .left v) }
 
 -- The theorem: what every run says of its steps.
-pub counted : (S : Setting) (limit : ℕ) (H : Heap) (e : Expr) → Counts limit (operators e) (run S limit H e)
+pub counted : (S : Setting) (limit : ℕ) (H : Heap) (e : Expr) → Counts (operators e) (run S limit H e)
 unfolding run
 counted S zero H e = limit-counts (operators e) H (step S Checked H e) (step-lowers S Checked H e)
 counted S (suc limit) H e =
-    onward-counts limit (operators e) H (step S Checked H e) (run S limit) (counted S limit) (step-lowers S Checked H e)
+    onward-counts (operators e) H (step S Checked H e) (run S limit) (counted S limit) (step-lowers S Checked H e)
+
+-- A run that may take no step.
+limit-allowed : (H : Heap) (s : Step) → Allowed 0 (atLimit H s)
+limit-allowed H (done n κ) = record { most = omega arith; spent = λ e. refl }
+limit-allowed H (stuck m) = record { most = omega arith; spent = λ e. refl }
+limit-allowed H (halt h m) = record { most = omega arith; spent = λ e. refl }
+limit-allowed H (next H′ e m) = record { most = omega arith; spent = λ e. refl }
+
+-- A run that may take a step, and what comes after it.
+onward-allowed : (limit : ℕ) (H : Heap) (s : Step) (go : Heap → Expr → Result)
+    → ((H : Heap) (e : Expr) → Allowed limit (go H e)) → Allowed (suc limit) (onward H s go)
+onward-allowed limit H (done n κ) go rest = record { most = omega arith; spent = λ e. differ cc }
+onward-allowed limit H (stuck m) go rest = record { most = omega arith; spent = λ e. differ cc }
+onward-allowed limit H (halt h m) go rest = record { most = omega arith; spent = λ e. differ cc }
+onward-allowed limit H (next H′ e m) go rest =
+    let r = rest H′ e in record { most = omega (arith, r .most); spent = λ v. ap suc (r .spent v) }
+
+-- The theorem: every run takes at most its limit.
+pub allowed : (S : Setting) (limit : ℕ) (H : Heap) (e : Expr) → Allowed limit (run S limit H e)
+unfolding run
+allowed S zero H e = limit-allowed H (step S Checked H e)
+allowed S (suc limit) H e = onward-allowed limit H (step S Checked H e) (run S limit) (allowed S limit)

@@ -26,8 +26,9 @@ use Rattle.calculus.specs.Expr.{Target, toWord, toStruct, toArray, point
 use Rattle.calculus.specs.Literal.{WellLit, t-base, isBase}
 use Rattle.calculus.specs.Typing.{Element, of-word, of-array}
 use Rattle.calculus.specs.Steps.{added, zeroed}
-use Rattle.calculus.proofs.Same.{told, refuted}
-use Rattle.calculus.proofs.Scope.{not-base, zero-base, Defined, Covered, Good, good-base, good-words, Covers, opened, covered-well}
+use Rattle.calculus.proofs.Same.{as-true, refuted}
+use Rattle.calculus.specs.Reach.{Good, good-base, good-words, Covers}
+use Rattle.calculus.proofs.Scope.{not-base, zero-base, Defined, Covered, opened, covered-well}
 use Rattle.calculus.proofs.Literals.{closed-good}
 use Rattle.cells.proofs.Free.{lowest}
 use Rattle.cells.proofs.Heaps.{look-same, look-other}
@@ -57,7 +58,7 @@ module _ {S : Setting} {H H′ : Heap} (kept : Kept S H H′) where
   kept-good {n} {κ} w = go (isBase n κ) refl
     where
       go : (t : Bool) → isBase n κ ≡ t → Good S H′ n κ
-      go true e = good-base (told e)
+      go true e = good-base (as-true e)
       go false e = good-words (λ i. valueIn (look H′ (n + i))) (λ i l. rw (kept-word w e i l .1))
 
   -- And what it covers in H′ is well typed in H.
@@ -98,7 +99,7 @@ malloc-kept S H κ k low high a i e =
     outside : (b : ℕ) {c : Cell} → look H b ≡ Holds c → a ≤ b → b < a + k → ⊥
     outside b h l m =
         let f : undefined (look H b) ≡ false = rw h in
-        refuted f (told (lowest (λ b. undefined (look H b)) k high low a e .run .each b l m))
+        refuted f (as-true (lowest (λ b. undefined (look H b)) k high low a e .run .each b l m))
 
 -- The pointer that malloc makes is checked.
 pub malloc-checked : (ω : Target) → T (checkedPointer (pointer Checked ω))

@@ -21,7 +21,8 @@ use Rattle.cells.specs.declared.HeapWord.the-variants.{Undefined, Holds}
 use Rattle.calculus.specs.Setting.{Setting, cell, size, wordKind}
 use Rattle.calculus.specs.Literal.{WellLit, t-base, t-vconst, t-ptrc, isBase, inScope, holdsWell, wellLit, literalWell}
 use Rattle.calculus.proofs.Same.{holds, refuted, both-holds, holds-both, one-holds, holds-one, neither, same-kind, kind-same, not-held, in-scope, scope-in, each-below, below-each}
-use Rattle.calculus.proofs.Scope.{Good, good-base, good-words, Covers, Reach, itself, further, base-pointer, well-good, covers-well, reach-well}
+use Rattle.calculus.specs.Reach.{Good, good-base, good-words, Covers, Reach, itself, further}
+use Rattle.calculus.proofs.Scope.{base-pointer, well-good, covers-well, reach-well}
 
 -- A word that passes holds its value with that kind, and the value passes.
 holds-well : (w : HeapWord) (κ : Kind) (well : ℕ → Kind → Bool) → T (holdsWell w κ well)
@@ -82,23 +83,23 @@ module _ (S : Setting) (H : Heap) where
           (each (cell (v i) (wordKind S κ i)) f (record { at = i; pointer = e; inside = l; there = there i l }))))
 
 -- one for a word whose cell is not in the scope
-freshWord : List Cell → HeapWord → ℕ
+pub freshWord : List Cell → HeapWord → ℕ
 freshWord σ Undefined = 0
 freshWord σ (Holds c) = choose (inScope c σ) (λ _. 0) (λ _. 1)
 
 -- how many words of a heap have a cell that is not in the scope
-fresh : List Cell → Heap → ℕ
+pub fresh : List Cell → Heap → ℕ
 fresh σ [] = 0
 fresh σ (w ∷ H) = freshWord σ w + fresh σ H
 
 -- A word counts once at most.
-fresh-word : (σ : List Cell) (w : HeapWord) → freshWord σ w ≤ 1
+pub fresh-word : (σ : List Cell) (w : HeapWord) → freshWord σ w ≤ 1
 unfolding freshWord
 fresh-word σ Undefined = omega arith
 fresh-word σ (Holds c) = choose-case (λ n. n ≤ 1) (inScope c σ) (λ _. 0) (λ _. 1) (omega arith) (omega arith)
 
 -- They are at most all words.
-fresh-all : (σ : List Cell) (H : Heap) → fresh σ H ≤ length H
+pub fresh-all : (σ : List Cell) (H : Heap) → fresh σ H ≤ length H
 unfolding fresh
 fresh-all σ [] = omega arith
 fresh-all σ (w ∷ H) = omega (arith, fresh-word σ w, fresh-all σ H)
@@ -115,7 +116,7 @@ module _ (c : Cell) (σ : List Cell) where
       go false t = omega arith
 
   -- So the number does not grow with the scope.
-  fresh-less : (H : Heap) → fresh (c ∷ σ) H ≤ fresh σ H
+  pub fresh-less : (H : Heap) → fresh (c ∷ σ) H ≤ fresh σ H
   unfolding fresh
   fresh-less [] = omega arith
   fresh-less (w ∷ H) = omega (arith, less-word w, fresh-less H)
@@ -128,7 +129,7 @@ module _ (c : Cell) (σ : List Cell) where
       rw (h, e, f) (omega arith)
 
   -- So the number falls if the literal is a word of the heap and was not in the scope.
-  fresh-falls : (H : Heap) (a : ℕ) → inScope c σ ≡ false → look H a ≡ Holds c → fresh (c ∷ σ) H < fresh σ H
+  pub fresh-falls : (H : Heap) (a : ℕ) → inScope c σ ≡ false → look H a ≡ Holds c → fresh (c ∷ σ) H < fresh σ H
   unfolding fresh look
   fresh-falls H zero e h = absurd (not-held h)
   fresh-falls [] (suc i) e h = absurd (not-held h)

@@ -14,48 +14,19 @@ use Rattle.cells.specs.declared.Mode.the-variants.{Checked}
 use Rattle.cells.specs.declared.Kind.{Kind}
 use Rattle.cells.specs.declared.Kind.the-variants.{Int, Word, Struct, Array}
 use Rattle.calculus.specs.Setting.{Setting, fieldsOf, size}
-use Rattle.calculus.specs.Expr.{Expr, lit, var, malloc, bind, one, two, nodes, One, unchecked, cast, read, field, Two, assign, sum, Target, pointer}
+use Rattle.calculus.specs.Expr.{Expr, lit, var, malloc, bind, one, two, nodes, One, unchecked, cast, read, field, Two, act, pointer, inside}
+use Rattle.calculus.specs.declared.Act.{Act}
+use Rattle.calculus.specs.declared.Act.the-variants.{Assign, Sum}
 use Rattle.calculus.specs.Literal.{WellLit, literalWell}
 use Rattle.calculus.specs.Typing.{Role, whole, access, follows, castable, Typed}
-use Rattle.calculus.specs.Judge.{Verdict, good, bad, thenJudge, accessRule, oneRule, twoRule, oneRole, twoRole, inside, judge, judged}
+use Rattle.calculus.specs.Judge.{Verdict, good, bad, thenJudge, accessRule, oneRule, actRule, twoRule, oneRole, twoRole, judge, judged}
+use Rattle.calculus.specs.FirstFault.{Has, has-type, PartsTyped, parts-var, parts-malloc, parts-one, parts-two, FirstFault, bad-literal, no-rule, in-bound, in-body, in-part, in-left, in-right}
 use Rattle.calculus.specs.declared.Fault.{Fault}
 use Rattle.calculus.specs.declared.Fault.the-variants.{NoRule, IllTyped}
 use Rattle.calculus.proofs.Same.{fails}
 use Rattle.calculus.proofs.Literals.{literal-test}
-use Rattle.calculus.proofs.Accepted.{Has, has-type, has-whole, found, answered}
+use Rattle.calculus.proofs.Accepted.{has-whole, judged-has, has-judged}
 use Rattle.calculus.proofs.Apart.{differ}
-
--- Every part of the node has a type, so that the node itself is judged. (A let whose parts have types has one.)
-pub data Parts (S : Setting) (H : Heap) (Γ : List Kind) (m : Mode) : Expr → Type 0 where
-  of-var : {k : ℕ} → Parts S H Γ m (var k)
-  of-malloc : {ω : Target} → Parts S H Γ m (malloc ω)
-  of-one : {o : One} {e : Expr} {κ : Kind} → Has S H (oneRole o) Γ (inside o m) e κ → Parts S H Γ m (one o e)
-  of-two : {o : Two} {a b : Expr} {κ κ′ : Kind}
-      → Has S H (twoRole o) Γ m a κ → Typed S H whole Γ m b κ′ → Parts S H Γ m (two o a b)
-
--- FirstFault S H r Γ m i e f j: of the expression e, whose root has the number i, the first node to fail is node j, with the fault f.
-pub data FirstFault (S : Setting) (H : Heap) : Role → List Kind → Mode → ℕ → Expr → Fault → ℕ → Type 0 where
-  -- "a literal isn't well typed over the heap"
-  bad-literal : {r : Role} {Γ : List Kind} {m : Mode} {i n : ℕ} {κ : Kind}
-      → (WellLit S H [] n κ → ⊥) → FirstFault S H r Γ m i (lit n κ) IllTyped i
-  -- "no typing rule fits a node": its parts have types, and it has none
-  no-rule : {r : Role} {Γ : List Kind} {m : Mode} {i : ℕ} {e : Expr}
-      → Parts S H Γ m e → ((κ : Kind) → Has S H r Γ m e κ → ⊥) → FirstFault S H r Γ m i e NoRule i
-  -- a let's bound part fails; or that has a type, and the body fails
-  in-bound : {r : Role} {Γ : List Kind} {m : Mode} {i j : ℕ} {a b : Expr} {f : Fault}
-      → FirstFault S H whole Γ m (suc i) a f j → FirstFault S H r Γ m i (bind a b) f j
-  in-body : {r : Role} {Γ : List Kind} {m : Mode} {i j : ℕ} {a b : Expr} {f : Fault} {κ : Kind}
-      → Typed S H whole Γ m a κ → FirstFault S H whole (κ ∷ Γ) m (suc i + nodes a) b f j
-      → FirstFault S H r Γ m i (bind a b) f j
-  -- the one part fails
-  in-part : {r : Role} {Γ : List Kind} {m : Mode} {i j : ℕ} {o : One} {e : Expr} {f : Fault}
-      → FirstFault S H (oneRole o) Γ (inside o m) (suc i) e f j → FirstFault S H r Γ m i (one o e) f j
-  -- the left part fails; or that has a type, and the right part fails
-  in-left : {r : Role} {Γ : List Kind} {m : Mode} {i j : ℕ} {o : Two} {a b : Expr} {f : Fault}
-      → FirstFault S H (twoRole o) Γ m (suc i) a f j → FirstFault S H r Γ m i (two o a b) f j
-  in-right : {r : Role} {Γ : List Kind} {m : Mode} {i j : ℕ} {o : Two} {a b : Expr} {f : Fault} {κ : Kind}
-      → Has S H (twoRole o) Γ m a κ → FirstFault S H whole Γ m (suc i + nodes a) b f j
-      → FirstFault S H r Γ m i (two o a b) f j
 
 -- What the rules of node i say once its parts have types: a type, or that none fits.
 data Says (i : ℕ) : Verdict → Type 0 where
@@ -84,14 +55,18 @@ module _ (S : Setting) (m : Mode) (i : ℕ) where
   one-says (field f) (Struct m′ s) = test-says (ltb f (length (fieldsOf S s))) _
   one-says (field f) (Array m′ k n) = none-fits
 
+  -- The rule of what is done with two values.
+  act-says : (r : Role) (o : Act) (κ κ′ : Kind) → Says i (actRule S m i r o κ κ′)
+  act-says r Assign κ κ′ = access-says κ _ (λ ε. test-says (sameKind κ′ ε) ε)
+  act-says r Sum Int κ′ = test-says (sameKind κ′ Int) Int
+  act-says r Sum (Word m′ n) κ′ = none-fits
+  act-says r Sum (Struct m′ s) κ′ = none-fits
+  act-says whole Sum (Array m′ k n) κ′ = none-fits
+  act-says access Sum (Array m′ k n) κ′ = test-says (sameKind κ′ Int) (Array m′ k n)
+
   -- The rules of a node with two parts.
   two-says : (r : Role) (o : Two) (κ κ′ : Kind) → Says i (twoRule S m i r o κ κ′)
-  two-says r assign κ κ′ = access-says κ _ (λ ε. test-says (sameKind κ′ ε) ε)
-  two-says r sum Int κ′ = test-says (sameKind κ′ Int) Int
-  two-says r sum (Word m′ n) κ′ = none-fits
-  two-says r sum (Struct m′ s) κ′ = none-fits
-  two-says whole sum (Array m′ k n) κ′ = none-fits
-  two-says access sum (Array m′ k n) κ′ = test-says (sameKind κ′ Int) (Array m′ k n)
+  two-says r (act o) κ κ′ = act-says r o κ κ′
 
 -- A node that is refused by its rules has fault 9.
 says-bad : {i j : ℕ} {v : Verdict} {f : Fault} → Says i v → v ≡ bad f j → (NoRule ≡ f) × (i ≡ j)
@@ -117,20 +92,20 @@ then-bad (bad f i) go q part rest = part q
 
 module _ (S : Setting) (H : Heap) where
   -- So does the judge of the node.
-  node-says : {Γ : List Kind} {m : Mode} {e : Expr} (r : Role) (i : ℕ) → Parts S H Γ m e → Says i (judge S H r Γ m i e)
+  node-says : {Γ : List Kind} {m : Mode} {e : Expr} (r : Role) (i : ℕ) → PartsTyped S H Γ m e → Says i (judge S H r Γ m i e)
   unfolding judge
-  node-says {Γ} {m} r i (of-var {k}) = test-says S m i (ltb k (length Γ)) _
-  node-says {m} r i (of-malloc {ω}) = test-says S m i (ltb 0 (size S (pointer Checked ω))) _
-  node-says {m} r i (of-one {o} {κ} h) = rw (answered S H (oneRole o) h (suc i)) (one-says S m i o κ)
-  node-says {m} r i (of-two {o} {a} {κ} {κ′} h d) =
-      rw (answered S H (twoRole o) h (suc i), answered S H whole (has-type d) (suc i + nodes a)) (two-says S m i r o κ κ′)
+  node-says {Γ} {m} r i (parts-var {k}) = test-says S m i (ltb k (length Γ)) _
+  node-says {m} r i (parts-malloc {ω}) = test-says S m i (ltb 0 (size S (pointer Checked ω))) _
+  node-says {m} r i (parts-one {o} {κ} h) = rw (has-judged S H (oneRole o) h (suc i)) (one-says S m i o κ)
+  node-says {m} r i (parts-two {o} {a} {κ} {κ′} h d) =
+      rw (has-judged S H (twoRole o) h (suc i), has-judged S H whole (has-type d) (suc i + nodes a)) (two-says S m i r o κ κ′)
 
   -- A node that is refused itself.
   at-node : {Γ : List Kind} {m : Mode} {e : Expr} {r : Role} {i j : ℕ} {f : Fault}
-      → Parts S H Γ m e → judge S H r Γ m i e ≡ bad f j → FirstFault S H r Γ m i e f j
+      → PartsTyped S H Γ m e → judge S H r Γ m i e ≡ bad f j → FirstFault S H r Γ m i e f j
   at-node {Γ} {m} {e} {r} {i} parts q =
       let (p, p′) = says-bad (node-says r i parts) q in
-      let none : (κ : Kind) → Has S H r Γ m e κ → ⊥ = λ κ h. differ (cc (answered S H r h i)) in
+      let none : (κ : Kind) → Has S H r Γ m e κ → ⊥ = λ κ h. differ (cc (has-judged S H r h i)) in
       rw (← p, ← p′) (no-rule parts none)
 
   -- A refusal is of the first node to fail.
@@ -139,31 +114,31 @@ module _ (S : Setting) (H : Heap) where
   unfolding judge
   first r Γ m i (lit n κ) q =
       let (w, p, p′) = test-bad (literalWell S H n κ) κ i q in rw (← p, ← p′) (bad-literal (λ d. w (literal-test S H n κ .1 d)))
-  first r Γ m i (var k) q = at-node of-var q
-  first r Γ m i (malloc ω) q = at-node of-malloc q
+  first r Γ m i (var k) q = at-node parts-var q
+  first r Γ m i (malloc ω) q = at-node parts-malloc q
   first r Γ m i (bind a b) q =
       then-bad (judge S H whole Γ m (suc i) a) _ q (λ l. in-bound (first whole Γ m (suc i) a l))
-      (λ κ g l. in-body (has-whole (found S H whole Γ m (suc i) a g)) (first whole (κ ∷ Γ) m _ b l))
+      (λ κ g l. in-body (has-whole (judged-has S H whole Γ m (suc i) a g)) (first whole (κ ∷ Γ) m _ b l))
   first r Γ m i (one o e) q =
       then-bad (judge S H (oneRole o) Γ (inside o m) (suc i) e) _ q (λ l. in-part (first (oneRole o) Γ (inside o m) (suc i) e l))
-      (λ κ g l. at-node (of-one (found S H (oneRole o) Γ (inside o m) (suc i) e g)) q)
+      (λ κ g l. at-node (parts-one (judged-has S H (oneRole o) Γ (inside o m) (suc i) e g)) q)
   first r Γ m i (two o a b) q =
       then-bad (judge S H (twoRole o) Γ m (suc i) a) _ q (λ l. in-left (first (twoRole o) Γ m (suc i) a l)) λ κ g l.
-      let h = found S H (twoRole o) Γ m (suc i) a g in
+      let h = judged-has S H (twoRole o) Γ m (suc i) a g in
       then-bad (judge S H whole Γ m (suc i + nodes a) b) _ l (λ l. in-right h (first whole Γ m _ b l))
-      (λ κ′ g′ l′. at-node (of-two h (has-whole (found S H whole Γ m _ b g′))) q)
+      (λ κ′ g′ l′. at-node (parts-two h (has-whole (judged-has S H whole Γ m _ b g′))) q)
 
   -- The first node to fail is refused.
   refuses : {r : Role} {Γ : List Kind} {m : Mode} {i j : ℕ} {e : Expr} {f : Fault}
       → FirstFault S H r Γ m i e f j → judge S H r Γ m i e ≡ bad f j
   unfolding judge
   refuses (bad-literal {n} {κ} w) = rw (fails (literalWell S H n κ) (λ t. w (literal-test S H n κ .0 t)))
-  refuses (no-rule {r} {Γ} {m} {i} {e} parts none) = says-none (node-says r i parts) (λ κ q. none κ (found S H r Γ m i e q))
+  refuses (no-rule {r} {Γ} {m} {i} {e} parts none) = says-none (node-says r i parts) (λ κ q. none κ (judged-has S H r Γ m i e q))
   refuses (in-bound l) = rw (refuses l)
-  refuses (in-body {i} d l) = rw (answered S H whole (has-type d) (suc i)) (refuses l)
+  refuses (in-body {i} d l) = rw (has-judged S H whole (has-type d) (suc i)) (refuses l)
   refuses (in-part l) = rw (refuses l)
   refuses (in-left l) = rw (refuses l)
-  refuses (in-right {i} {o} h l) = rw (answered S H (twoRole o) h (suc i), refuses l)
+  refuses (in-right {i} {o} h l) = rw (has-judged S H (twoRole o) h (suc i), refuses l)
 
   -- The judge refuses an expression, in either role, exactly at its first node to fail and with that node's fault.
   pub refused-at : (r : Role) (Γ : List Kind) (m : Mode) (i : ℕ) (e : Expr) (f : Fault) (j : ℕ)

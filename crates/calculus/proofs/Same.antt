@@ -1,5 +1,5 @@
 -- What the tests of the definitions say: `sameMode`, `sameKind` and `sameCell` decide equality, `inScope` decides membership, and
--- `allFrom` tests each number. A test t is spoken of as `T t`: `holds` and `told` carry that to `t ≡ true` and back, `fails` and
+-- `allFrom` tests each number. A test t is spoken of as `T t`: `holds` and `as-true` carry that to `t ≡ true` and back, `fails` and
 -- `refuted` carry `T t → ⊥` to `t ≡ false` and back.
 use mathlib.Core.Path.{_≡_, refl}
 use mathlib.Core.Logic.{_⊎_, inl, inr, ⊎-elim}
@@ -25,8 +25,8 @@ holds true h = refl
 holds false h = absurd h
 
 -- A test that is true holds.
-pub told : {t : Bool} → t ≡ true → T t
-told e = rw e tt
+pub as-true : {t : Bool} → t ≡ true → T t
+as-true e = rw e tt
 
 -- A test that does not hold is false.
 pub fails : (t : Bool) → (T t → ⊥) → t ≡ false
@@ -113,7 +113,7 @@ kind-same (Array m k n) =
 
 -- The same as equations: `sameKind` says true exactly of equal kinds, and false exactly of others.
 pub sameKind-true : (κ κ′ : Kind) → sameKind κ κ′ ≡ true → κ ≡ κ′
-sameKind-true κ κ′ e = same-kind κ κ′ (told e)
+sameKind-true κ κ′ e = same-kind κ κ′ (as-true e)
 
 pub sameKind-false : (κ κ′ : Kind) → sameKind κ κ′ ≡ false → κ ≡ κ′ → ⊥
 sameKind-false κ κ′ e q = refuted e (rw q (kind-same κ′))

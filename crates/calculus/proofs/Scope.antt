@@ -1,6 +1,6 @@
 -- The judgement of literals and its scope: a larger scope serves as well; a literal of the scope may be replaced by its own
--- derivation; so the words that a literal covers are well typed in the empty scope if it is. Then what is reached from a literal,
--- and that whatever is reached from a well-typed one is well typed, and good.
+-- derivation; so the words that a literal covers are well typed in the empty scope if it is. Then that whatever is reached from a
+-- well-typed literal is well typed, and good.
 use mathlib.Core.Path.{_≡_}
 use mathlib.Core.Logic.{⊎-elim}
 use mathlib.Core.Bool.{Bool, true, false, not}
@@ -16,6 +16,7 @@ use Rattle.cells.specs.declared.Cell.{Cell}
 use Rattle.cells.specs.declared.HeapWord.the-variants.{Holds}
 use Rattle.calculus.specs.Setting.{Setting, cell, size, wordKind, checkedPointer, checkedEmpty}
 use Rattle.calculus.specs.Literal.{WellLit, t-base, t-vconst, t-ptrc, isBase}
+use Rattle.calculus.specs.Reach.{Good, good-base, good-words, Covers, Reach, itself, further}
 use Rattle.calculus.proofs.Same.{holds, refuted, holds-one}
 
 -- A literal that is not base is a checked pointer.
@@ -49,23 +50,6 @@ pub record Defined (S : Setting) (H : Heap) (a : ℕ) (ε : Kind) : Type 0 where
 -- so is the i-th word that a literal covers, with exactly the target's word type there
 abbrev pub Covered : Setting → Heap → ℕ → Kind → ℕ → Type 0
 Covered S H n κ i = Defined S H (n + i) (wordKind S κ i)
-
--- the literal is base, or each word that it covers is defined and has exactly the target's word type there
-pub data Good (S : Setting) (H : Heap) (n : ℕ) (κ : Kind) : Type 0 where
-  good-base : T (isBase n κ) → Good S H n κ
-  good-words : (v : ℕ → ℕ) → ((i : ℕ) → i < size S κ → look H (n + i) ≡ Holds (cell (v i) (wordKind S κ i))) → Good S H n κ
-
--- d is a word that the literal c, a checked pointer and not base, covers
-pub record Covers (S : Setting) (H : Heap) (c d : Cell) : Type 0 where
-  pub at : ℕ
-  pub pointer : isBase (c .value) (c .kind) ≡ false
-  pub inside : at < size S (c .kind)
-  pub there : look H (c .value + at) ≡ Holds d
-
--- d is reached from c: it is c, or a word that a literal reached from c covers
-pub data Reach (S : Setting) (H : Heap) : Cell → Cell → Type 0 where
-  itself : {c : Cell} → Reach S H c c
-  further : {c d e : Cell} → Reach S H c d → Covers S H d e → Reach S H c e
 
 module _ {S : Setting} {H : Heap} where
   -- The paper's Lemma 1, weakening: what is well typed in a scope is so in a larger one.

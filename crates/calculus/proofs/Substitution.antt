@@ -11,7 +11,7 @@ use Rattle.cells.specs.declared.Kind.{Kind}
 use Rattle.calculus.specs.Setting.{Setting, cell}
 use Rattle.calculus.specs.Expr.{Expr, var}
 use Rattle.calculus.specs.Literal.{WellLit}
-use Rattle.calculus.specs.Typing.{Role, whole, Bound, here, out, Typed, t-var, t-lit, t-let, t-malloc, t-unchecked, t-cast, t-field, t-sum, t-read, t-assign, t-pointer, t-index}
+use Rattle.calculus.specs.Typing.{Role, whole, Bound, here, out, Typed, t-var, t-lit, t-let, t-malloc, t-unchecked, t-cast, t-field, t-act, t-read, t-pointer, t-index}
 use Rattle.calculus.specs.Steps.{replace}
 
 -- Γ′ is Γ without the type κ of the variable d lets out.
@@ -58,9 +58,8 @@ module _ {S : Setting} {H : Heap} {n : ℕ} {κ : Kind} (well : WellLit S H [] n
   replaced (t-unchecked e) w = t-unchecked (replaced e w)
   replaced (t-cast t e) w = t-cast t (replaced e w)
   replaced (t-field e l) w = t-field (replaced e w) l
-  replaced (t-sum a b) w = t-sum (replaced a w) (replaced b w)
+  replaced (t-act a b t) w = t-act (replaced a w) (replaced b w) t
   replaced (t-read e) w = t-read (replaced e w)
-  replaced (t-assign p e) w = t-assign (replaced p w) (replaced e w)
   replaced (t-pointer e el f) w = t-pointer (replaced e w) el f
   replaced (t-index a b f) w = t-index (replaced a w) (replaced b w) f
 

@@ -7,13 +7,15 @@ use Rattle.choice.specs.Choice.{choose}
 use Rattle.cells.specs.Heap.{Heap}
 use Rattle.cells.specs.Same.{sameKind}
 use Rattle.cells.specs.declared.Mode.{Mode}
-use Rattle.cells.specs.declared.Mode.the-variants.{Checked, Unchecked}
+use Rattle.cells.specs.declared.Mode.the-variants.{Checked}
 use Rattle.cells.specs.declared.Kind.{Kind}
 use Rattle.cells.specs.declared.Kind.the-variants.{Int, Word, Struct, Array}
 use Rattle.calculus.specs.Setting.{Setting, kindOf, fieldsOf, size}
-use Rattle.calculus.specs.Expr.{Expr, lit, var, malloc, bind, one, two, nodes, One, unchecked, cast, read, field, Two, assign, sum, pointer}
+use Rattle.calculus.specs.declared.Act.{Act}
+use Rattle.calculus.specs.declared.Act.the-variants.{Assign, Sum}
+use Rattle.calculus.specs.Expr.{Expr, lit, var, malloc, bind, one, two, nodes, One, unchecked, cast, read, field, Two, act, pointer, inside}
 use Rattle.calculus.specs.Literal.{literalWell}
-use Rattle.calculus.specs.Typing.{Role, whole, access, follows, castable}
+use Rattle.calculus.specs.Typing.{Role, whole, access, actRole, follows, castable}
 use Rattle.calculus.specs.declared.Fault.{Fault}
 use Rattle.calculus.specs.declared.Fault.the-variants.{NoRule, IllTyped}
 
@@ -57,11 +59,15 @@ module _ (S : Setting) (m : Mode) (i : ℕ) where
   sumRule whole (Array m′ k n) κ = bad NoRule i
   sumRule access (Array m′ k n) κ = choose (sameKind κ Int) (λ _. good (Array m′ k n)) (λ _. bad NoRule i)
 
-  abbrev pub twoRule : Role → Two → Kind → Kind → Verdict
-  twoRule role assign κ κ′ = accessRule κ (λ ε. choose (sameKind κ′ ε) (λ _. good ε) (λ _. bad NoRule i))
-  twoRule role sum κ κ′ = sumRule role κ κ′
+  -- what is done with two values
+  abbrev pub actRule : Role → Act → Kind → Kind → Verdict
+  actRule role Assign κ κ′ = accessRule κ (λ ε. choose (sameKind κ′ ε) (λ _. good ε) (λ _. bad NoRule i))
+  actRule role Sum κ κ′ = sumRule role κ κ′
 
--- the role and the mode in which a node's first part is judged
+  abbrev pub twoRule : Role → Two → Kind → Kind → Verdict
+  twoRule role (act o) κ κ′ = actRule role o κ κ′
+
+-- the role in which a node's first part is judged
 abbrev pub oneRole : One → Role
 oneRole unchecked = whole
 oneRole (cast κ) = whole
@@ -69,14 +75,7 @@ oneRole read = access
 oneRole (field f) = whole
 
 abbrev pub twoRole : Two → Role
-twoRole assign = access
-twoRole sum = whole
-
-abbrev pub inside : One → Mode → Mode
-inside unchecked m = Unchecked
-inside (cast κ) m = m
-inside read m = m
-inside (field f) m = m
+twoRole (act o) = actRole o
 
 -- Node i, the root of the expression: its type, or the first fault. As an access it answers the pointer's type.
 unfoldable pub judge : Setting → Heap → Role → List Kind → Mode → ℕ → Expr → Verdict

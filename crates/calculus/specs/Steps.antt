@@ -18,14 +18,11 @@ use Rattle.cells.specs.declared.HeapWord.the-variants.{Undefined, Holds}
 use Rattle.cells.specs.declared.Run.{Run}
 use Rattle.cells.specs.declared.Run.the-variants.{From, Nowhere}
 use Rattle.calculus.specs.Setting.{Setting, cell, fieldsOf, size, wordKind, isChecked, checkedPointer, checkedEmpty}
-use Rattle.calculus.specs.Expr.{Expr, lit, var, malloc, bind, one, two, One, unchecked, cast, read, field, Two, assign, sum, Target, pointer}
-use Rattle.calculus.specs.Judge.{inside}
-
--- the halts
-pub data Halt : Type 0 where
-  null : Halt
-  bounds : Halt
-  room : Halt
+use Rattle.calculus.specs.Expr.{Expr, lit, var, malloc, bind, one, two, One, unchecked, cast, read, field, Two, act, Target, pointer, inside}
+use Rattle.calculus.specs.declared.Act.{Act}
+use Rattle.calculus.specs.declared.Act.the-variants.{Assign, Sum}
+use Rattle.calculus.specs.declared.Halt.{Halt}
+use Rattle.calculus.specs.declared.Halt.the-variants.{Null, Bounds, Room}
 
 -- what a redex does: nothing fits; it halts; or it gives a value, and the heap is then as told
 pub data Redex : Type 0 where
@@ -54,7 +51,7 @@ checkedArray (Array m c n) = isChecked m
 -- E-Binop, X-BinopNull
 unfoldable pub sumRedex : Setting → Heap → ℕ → Kind → ℕ → Redex
 sumRedex S H n κ k =
-    choose (both (checkedArray κ) (eqb n 0)) (λ _. halts null) (λ _. gives H (added S n k) (fallen κ k))
+    choose (both (checkedArray κ) (eqb n 0)) (λ _. halts Null) (λ _. gives H (added S n k) (fallen κ k))
 
 -- no rule fits an undefined word
 abbrev pub definedThen : HeapWord → (Cell → Redex) → Redex
@@ -65,8 +62,8 @@ definedThen (Holds c) go = go c
 -- halts with Bounds; then v undefined in the heap is Stuck; otherwise" go on with the word
 unfoldable pub wordThen : Heap → ℕ → Kind → (Cell → Redex) → Redex
 wordThen H n κ go =
-    choose (both (checkedPointer κ) (eqb n 0)) (λ _. halts null) λ _.
-    choose (checkedEmpty κ) (λ _. halts bounds) (λ _. definedThen (look H n) go)
+    choose (both (checkedPointer κ) (eqb n 0)) (λ _. halts Null) λ _.
+    choose (checkedEmpty κ) (λ _. halts Bounds) (λ _. definedThen (look H n) go)
 
 -- E-Amper, X-AmperNull: "The value plus the field number, modulo 2^32. No struct pointer, or no such field: Stuck. Otherwise a checked
 -- pointer of 0 halts with Null."
@@ -75,7 +72,7 @@ fieldRedex S H f n Int = blocked
 fieldRedex S H f n (Word m t) = blocked
 fieldRedex S H f n (Struct m s) =
     choose (ltb f (length (fieldsOf S s)))
-    (λ _. choose (both (isChecked m) (eqb n 0)) (λ _. halts null)
+    (λ _. choose (both (isChecked m) (eqb n 0)) (λ _. halts Null)
     (λ _. gives H (added S n f) (Word m (getD (fieldsOf S s) f 0))))
     (λ _. blocked)
 fieldRedex S H f n (Array m k t) = blocked
@@ -88,9 +85,9 @@ oneRedex S H read n κ = wordThen H n κ (λ c. gives H (c .value) (c .kind))
 oneRedex S H (field f) n κ = fieldRedex S H f n κ
 
 -- E-Assign with X-AssignNull and X-AssignOOB, and the sum: the word is "replaced by the value with the value's type, which is the result"
-abbrev pub twoRedex : Setting → Heap → Two → ℕ → Kind → ℕ → Kind → Redex
-twoRedex S H assign n κ k κ′ = wordThen H n κ (λ _. gives (update H n (cell k κ′)) k κ′)
-twoRedex S H sum n κ k κ′ = sumRedex S H n κ k
+abbrev pub actRedex : Setting → Heap → Act → ℕ → Kind → ℕ → Kind → Redex
+actRedex S H Assign n κ k κ′ = wordThen H n κ (λ _. gives (update H n (cell k κ′)) k κ′)
+actRedex S H Sum n κ k κ′ = sumRedex S H n κ k
 
 -- k words from address a on, the i-th word of the target and those behind it, become zeros of the target's types
 unfoldable pub zeroed : Setting → Kind → (k a i : ℕ) → Heap → Heap
@@ -100,7 +97,7 @@ zeroed S κ (suc k) a i H = zeroed S κ k (suc a) (suc i) (update H a (cell 0 (w
 -- the run becomes the target's words
 abbrev pub takenFrom : Setting → Heap → Kind → Run → Redex
 takenFrom S H κ (From a) = gives (zeroed S κ (size S κ) a 0 H) a κ
-takenFrom S H κ Nowhere = halts room
+takenFrom S H κ Nowhere = halts Room
 
 -- E-Malloc: "the lowest run of k consecutive undefined addresses within 1 to W becomes k zeros of the target's types. Room is given
 -- exactly if no such run exists."
@@ -145,6 +142,6 @@ step S m H (var k) = stuck m
 step S m H (malloc ω) = redexStep m (mallocRedex S H (pointer Checked ω))
 step S m H (bind a b) = frame (λ a′. bind a′ b) (step S m H a) (λ n κ. next H (replace 0 (cell n κ) b) m)
 step S m H (one o e) = frame (one o) (step S (inside o m) H e) (λ n κ. redexStep m (oneRedex S H o n κ))
-step S m H (two o a b) =
-    frame (λ a′. two o a′ b) (step S m H a)
-    (λ n κ. frame (two o (lit n κ)) (step S m H b) (λ k κ′. redexStep m (twoRedex S H o n κ k κ′)))
+step S m H (two (act o) a b) =
+    frame (λ a′. two (act o) a′ b) (step S m H a)
+    (λ n κ. frame (two (act o) (lit n κ)) (step S m H b) (λ k κ′. redexStep m (actRedex S H o n κ k κ′)))

@@ -11,7 +11,9 @@ use Rattle.cells.specs.declared.Mode.the-variants.{Checked, Unchecked}
 use Rattle.cells.specs.declared.Kind.{Kind}
 use Rattle.cells.specs.declared.Kind.the-variants.{Int, Word, Struct, Array}
 use Rattle.calculus.specs.Setting.{Setting, kindOf, fieldsOf, size, checkedPointer}
-use Rattle.calculus.specs.Expr.{Expr, lit, var, malloc, bind, one, two, One, unchecked, cast, read, field, Two, assign, sum, Target, pointer}
+use Rattle.calculus.specs.declared.Act.{Act}
+use Rattle.calculus.specs.declared.Act.the-variants.{Assign, Sum}
+use Rattle.calculus.specs.Expr.{Expr, lit, var, malloc, bind, one, two, One, unchecked, cast, read, field, Two, act, Target, pointer}
 use Rattle.calculus.specs.Literal.{WellLit}
 
 -- "An unchecked pointer only in unchecked mode": code of mode m may follow a pointer of mode m′
@@ -40,6 +42,19 @@ pub data Role : Type 0 where
   whole : Role
   access : Role
 
+-- the role in which the first of two values is judged
+abbrev pub actRole : Act → Role
+actRole Assign = access
+actRole Sum = whole
+
+-- ActTyped o κ κ′ κ″: done with two values of the types κ and κ′, the operation gives one of type κ″. For an assign, κ is the type of the
+-- access: "the value part has that type exactly".
+pub data ActTyped : Act → (κ κ′ κ″ : Kind) → Type 0 where
+  -- T-Assign and T-IndAssign
+  act-assign : {ε : Kind} → ActTyped Assign ε ε ε
+  -- T-BinopInt: "both int, result int"
+  act-sum : ActTyped Sum Int Int Int
+
 -- Typed S H whole Γ m e κ: the expression has type κ. Typed S H access Γ m e ε: an access through it has type ε.
 pub data Typed (S : Setting) (H : Heap) : Role → List Kind → Mode → Expr → Kind → Type 0 where
   -- T-Var
@@ -62,14 +77,11 @@ pub data Typed (S : Setting) (H : Heap) : Role → List Kind → Mode → Expr �
   t-field : {Γ : List Kind} {m m′ : Mode} {e : Expr} {s i : ℕ}
       → Typed S H whole Γ m e (Struct m′ s) → i < length (fieldsOf S s)
       → Typed S H whole Γ m (one (field i) e) (Word m′ (getD (fieldsOf S s) i 0))
-  -- T-BinopInt: "both int, result int"
-  t-sum : {Γ : List Kind} {m : Mode} {a b : Expr}
-      → Typed S H whole Γ m a Int → Typed S H whole Γ m b Int → Typed S H whole Γ m (two sum a b) Int
+  -- what is done with two values, by the table above
+  t-act : {Γ : List Kind} {m : Mode} {o : Act} {a b : Expr} {κ κ′ κ″ : Kind}
+      → Typed S H (actRole o) Γ m a κ → Typed S H whole Γ m b κ′ → ActTyped o κ κ′ κ″ → Typed S H whole Γ m (two (act o) a b) κ″
   -- T-Deref and T-Index
   t-read : {Γ : List Kind} {m : Mode} {e : Expr} {ε : Kind} → Typed S H access Γ m e ε → Typed S H whole Γ m (one read e) ε
-  -- T-Assign and T-IndAssign: "the value part has that type exactly"
-  t-assign : {Γ : List Kind} {m : Mode} {p e : Expr} {ε : Kind}
-      → Typed S H access Γ m p ε → Typed S H whole Γ m e ε → Typed S H whole Γ m (two assign p e) ε
   -- the pointer of T-Deref and T-Assign
   t-pointer : {Γ : List Kind} {m m′ : Mode} {e : Expr} {κ ε : Kind}
       → Typed S H whole Γ m e κ → Element S κ m′ ε → T (follows m m′) → Typed S H access Γ m e ε
@@ -77,4 +89,4 @@ pub data Typed (S : Setting) (H : Heap) : Role → List Kind → Mode → Expr �
   -- pointer"
   t-index : {Γ : List Kind} {m m′ : Mode} {a b : Expr} {k n : ℕ}
       → Typed S H whole Γ m a (Array m′ k n) → Typed S H whole Γ m b Int → T (follows m m′)
-      → Typed S H access Γ m (two sum a b) (kindOf S n)
+      → Typed S H access Γ m (two (act Sum) a b) (kindOf S n)

@@ -1,6 +1,33 @@
-// CoreChkC over cells: its definitions stand in specs/. Here are the answers that the definitions and the code share: why an image
-// is refused, and how a run ends.
+// CoreChkC over cells: its definitions stand in specs/. Here are the names that the definitions and the code share: what a node does, why
+// an image is refused, and how a run ends.
 use cells::Cell;
+
+mod operations;
+
+pub use operations::operation_of;
+
+// What is done with the values of two parts.
+pub enum Act {
+    // The word that the first points to becomes the second.
+    Assign,
+    Sum,
+}
+
+// What a node does, by its code.
+pub enum Operation {
+    Literal,
+    Variable,
+    Let,
+    Malloc,
+    Unchecked,
+    Cast,
+    Read,
+    // It acts on the values of its two parts.
+    Acts(Act),
+    Field,
+    // No node has the code.
+    Unknown,
+}
 
 // Why an image is refused, in the order of the numbers 1 to 10.
 pub enum Fault {
@@ -32,13 +59,19 @@ pub struct Refusal {
     pub place: usize,
 }
 
+// Why a step halts.
+pub enum Halt {
+    Null,
+    Bounds,
+    Room,
+}
+
 // How a run ends.
 pub enum End {
     // With a value and its type.
     Value(Cell),
-    Null,
-    Bounds,
-    Room,
+    // A step halted.
+    Halted(Halt),
     Stuck,
     More,
 }

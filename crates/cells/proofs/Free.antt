@@ -168,18 +168,18 @@ module _ (free : ℕ → Bool) (k high : ℕ) where
       → Vacant free k a
   vacant-before free′ more a l h v = record { each = λ b m n. h b (v .each b m (omega arith)) }
 
--- two tests that agree up to high
-module _ (f g : ℕ → Bool) (high : ℕ) (agree : (b : ℕ) → b ≤ high → f b ≡ g b) where
-  all-free-same : (k a : ℕ) → a + k ≤ high + 1 → allFrom f k a ≡ allFrom g k a
+-- two tests that agree from low up to high
+module _ (f g : ℕ → Bool) (low high : ℕ) (agree : (b : ℕ) → low ≤ b → b ≤ high → f b ≡ g b) where
+  all-free-same : (k a : ℕ) → low ≤ a → a + k ≤ high + 1 → allFrom f k a ≡ allFrom g k a
   unfolding allFrom
-  all-free-same zero a l = refl
-  all-free-same (suc k) a l = rw (agree a (omega arith), all-free-same k (suc a) (omega arith))
+  all-free-same zero a m l = refl
+  all-free-same (suc k) a m l = rw (agree a m (omega arith), all-free-same k (suc a) (omega arith) (omega arith))
 
-  first-run-same : (k n a : ℕ) → n ≤ (high + 2) - (a + k) → firstRun f k n a ≡ firstRun g k n a
+  first-run-same : (k n a : ℕ) → low ≤ a → n ≤ (high + 2) - (a + k) → firstRun f k n a ≡ firstRun g k n a
   unfolding firstRun
-  first-run-same k zero a l = refl
-  first-run-same k (suc n) a l = rw (all-free-same k a (omega arith), first-run-same k n (suc a) (omega arith))
+  first-run-same k zero a m l = refl
+  first-run-same k (suc n) a m l = rw (all-free-same k a m (omega arith), first-run-same k n (suc a) (omega arith) (omega arith))
 
-  -- a search tests no address above high
-  pub lowest-same : (k low : ℕ) → lowestIn f k low high ≡ lowestIn g k low high
-  lowest-same k low = first-run-same k _ low (omega arith)
+  -- a search tests no address below low or above high
+  pub lowest-same : (k : ℕ) → lowestIn f k low high ≡ lowestIn g k low high
+  lowest-same k = first-run-same k _ low (omega arith) (omega arith)

@@ -11,7 +11,7 @@ use Rattle.choice.specs.Choice.{choose-case}
 use Rattle.cells.specs.Code.{packed, asWord}
 use Rattle.cells.specs.Heap.{Heap, look, update, undefined, SmallWord, small-held, SmallHeap}
 use Rattle.cells.specs.Free.{lowestIn}
-use Rattle.cells.specs.Lent.{wordAt, numberAt, putWord, stored, cleared, lowestRun, valueIn, codeIn, numbersOf, lent}
+use Rattle.cells.specs.Lent.{wordAt, lentNumber, putWord, stored, cleared, lowestRun, valueIn, codeIn, numbersOf, lent}
 use Rattle.cells.specs.declared.Cell.{Cell}
 use Rattle.cells.specs.declared.HeapWord.{HeapWord}
 use Rattle.cells.specs.declared.HeapWord.the-variants.{Undefined, Holds}
@@ -73,16 +73,16 @@ pub length-lent : (H : Heap) (ws : List ℕ) → 2 * length H ≤ length ws → 
 length-lent H ws l = simp (length-append, length-numbers, length-drop) (omega arith)
 
 -- so are its two numbers
-pub value-lent : (H : Heap) (ws : List ℕ) (a : ℕ) → a ≤ length H → 2 * length H ≤ length ws → numberAt (lent H ws) a 0 ≡ valueIn (look H a)
-unfolding numberAt look
+pub value-lent : (H : Heap) (ws : List ℕ) (a : ℕ) → a ≤ length H → 2 * length H ≤ length ws → lentNumber (lent H ws) a 0 ≡ valueIn (look H a)
+unfolding lentNumber look
 value-lent H ws zero l r = refl
 value-lent H ws (suc i) l r =
     let long : length (lent H ws) ≡ length ws = length-lent H ws r in
     let e : 2 * i + 0 ≡ 2 * i = omega arith in
     rw (lt-ltb i (length (lent H ws) / 2) (omega arith), e) (value-at H (drop (2 * length H) ws) i l)
 
-pub code-lent : (H : Heap) (ws : List ℕ) (a : ℕ) → a ≤ length H → 2 * length H ≤ length ws → numberAt (lent H ws) a 1 ≡ codeIn (look H a)
-unfolding numberAt look
+pub code-lent : (H : Heap) (ws : List ℕ) (a : ℕ) → a ≤ length H → 2 * length H ≤ length ws → lentNumber (lent H ws) a 1 ≡ codeIn (look H a)
+unfolding lentNumber look
 code-lent H ws zero l r = refl
 code-lent H ws (suc i) l r =
     let long : length (lent H ws) ≡ length ws = length-lent H ws r in
@@ -127,4 +127,4 @@ pub lowest-lent : (H : Heap) (ws : List ℕ) (k low high : ℕ) → SmallHeap H 
     → lowestRun (lent H ws) k low high ≡ lowestIn (λ a. undefined (look H a)) k low high
 lowest-lent H ws k low high s r l =
     let e : min high (length (lent H ws) / 2) ≡ high = omega (arith, length-lent H ws r) in
-    rw e (lowest-same _ _ high (λ b m. ap undefined (word-lent H ws b s (omega arith))) k low)
+    rw e (lowest-same _ _ low high (λ b _ m. ap undefined (word-lent H ws b s (omega arith))) k)

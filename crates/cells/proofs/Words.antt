@@ -12,18 +12,18 @@ use borrow.Author.Tests.{lt-ltb, le-ltb}
 use Rattle.choice.specs.Choice.{choose}
 use Rattle.cells.specs.Code.{asWord, unpacked}
 use Rattle.cells.specs.Heap.{undefined}
-use Rattle.cells.specs.Lent.{wordAt, numberAt, putWord}
+use Rattle.cells.specs.Lent.{wordAt, lentNumber, putWord}
 use Rattle.cells.specs.declared.HeapWord.the-variants.{Undefined, Holds}
 
 module _ (ws : List ℕ) where
   -- the word at address i + 1 has its numbers at 2i and 2i + 1
-  pub number-here : (a i j : ℕ) → a ≡ suc i → i < length ws / 2 → numberAt ws a j ≡ getD ws (2 * i + j) 0
-  unfolding numberAt
+  pub number-here : (a i j : ℕ) → a ≡ suc i → i < length ws / 2 → lentNumber ws a j ≡ getD ws (2 * i + j) 0
+  unfolding lentNumber
   number-here a i j e l = rw (e, lt-ltb i (length ws / 2) l)
 
   -- no word stands at address 0, nor past the last whole one
-  pub number-none : (a j : ℕ) → (0 < a → length ws / 2 < a) → numberAt ws a j ≡ 0
-  unfolding numberAt
+  pub number-none : (a j : ℕ) → (0 < a → length ws / 2 < a) → lentNumber ws a j ≡ 0
+  unfolding lentNumber
   number-none zero j h = refl
   number-none (suc i) j h = let l : length ws / 2 < suc i = h (omega arith) in rw (le-ltb i (length ws / 2) (omega arith))
 
@@ -38,8 +38,8 @@ module _ (ws : List ℕ) where
   put-none (suc i) value code h = let l : length ws / 2 < suc i = h (omega arith) in rw (le-ltb i (length ws / 2) (omega arith))
 
   -- a word is its two numbers
-  pub word-numbers : (a : ℕ) → wordAt ws a ≡ asWord (numberAt ws a 0) (numberAt ws a 1)
-  unfolding wordAt numberAt
+  pub word-numbers : (a : ℕ) → wordAt ws a ≡ asWord (lentNumber ws a 0) (lentNumber ws a 1)
+  unfolding wordAt lentNumber
   word-numbers zero = refl
   word-numbers (suc i) = go (decLt i (length ws / 2))
     where
@@ -58,5 +58,5 @@ undefined-code value code = go (eqb code 0)
     go true = refl
     go false = refl
 
-pub undefined-number : (ws : List ℕ) (a : ℕ) → undefined (wordAt ws a) ≡ eqb (numberAt ws a 1) 0
-undefined-number ws a = rw (word-numbers ws a) (undefined-code (numberAt ws a 0) (numberAt ws a 1))
+pub undefined-number : (ws : List ℕ) (a : ℕ) → undefined (wordAt ws a) ≡ eqb (lentNumber ws a 1) 0
+undefined-number ws a = rw (word-numbers ws a) (undefined-code (lentNumber ws a 0) (lentNumber ws a 1))

@@ -26,9 +26,9 @@ wordAt ws zero = Undefined
 wordAt ws (suc i) = asWord (getD ws (2 * i) 0) (getD ws (2 * i + 1) 0)
 
 -- number j of the word at an address, its value or its kind's code: 0 where there is no such word
-unfoldable pub numberAt : List ℕ → (a j : ℕ) → ℕ
-numberAt ws zero j = 0
-numberAt ws (suc i) j = choose (ltb i (wholeWords ws)) (λ _. getD ws (2 * i + j) 0) (λ _. 0)
+unfoldable pub lentNumber : List ℕ → (a j : ℕ) → ℕ
+lentNumber ws zero j = 0
+lentNumber ws (suc i) j = choose (ltb i (wholeWords ws)) (λ _. getD ws (2 * i + j) 0) (λ _. 0)
 
 -- the numbers after the word at an address was made to hold the value of the kind with that code; no word, no change
 unfoldable pub putWord : List ℕ → (a value code : ℕ) → List ℕ

@@ -2,7 +2,7 @@
 ghost use Prim.Native.Nat.{_+_, _<_, min};
 ghost use mathlib.Core.Path.{_≡_};
 ghost use lib.ListN.{getD, set};
-ghost use Rattle.cells.specs.Lent.{heapWords, wordAt, numberAt, stored, putWord, cleared, lowestRun};
+ghost use Rattle.cells.specs.Lent.{heapWords, wordAt, lentNumber, stored, putWord, cleared, lowestRun};
 ghost use Rattle.cells.specs.Heap.{undefined};
 use crate::Cell;
 use crate::HeapWord;
@@ -42,14 +42,14 @@ pub fn cell_at(heap: &[u64], address: usize) -> HeapWord
 
 // The value of the word at an address, 0 where there is no such word.
 pub fn value_at(heap: &[u64], address: usize) -> u64
-    ensures { λ r. ⌜ r ≡ numberAt (now (heap .entry)) address 0 ⌝ }
+    ensures { λ r. ⌜ r ≡ lentNumber (now (heap .entry)) address 0 ⌝ }
 {
     number_at(heap, address, 0)
 }
 
 // The code of its kind, 0 if it is undefined.
 pub fn code_at(heap: &[u64], address: usize) -> u64
-    ensures { λ r. ⌜ r ≡ numberAt (now (heap .entry)) address 1 ⌝ }
+    ensures { λ r. ⌜ r ≡ lentNumber (now (heap .entry)) address 1 ⌝ }
 {
     number_at(heap, address, 1)
 }
@@ -116,7 +116,7 @@ fn is_undefined(heap: &[u64], address: usize) -> bool
 // Number j of the word at an address: 0 where there is no such word.
 fn number_at(heap: &[u64], address: usize, j: usize) -> u64
     requires { ⌜ j < 2 ⌝ }
-    ensures { λ r. ⌜ r ≡ numberAt (now (heap .entry)) address j ⌝ }
+    ensures { λ r. ⌜ r ≡ lentNumber (now (heap .entry)) address j ⌝ }
 {
     // Address 0 wraps to the highest number, and no heap is that long.
     let place = std::num::wrapping_sub_usize(address, 1);

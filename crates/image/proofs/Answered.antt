@@ -6,7 +6,10 @@ use native.Mathlib.Omega.{arith}
 use Rattle.calculus.specs.declared.Refusal.{Refusal}
 use Rattle.image.specs.Reading.{Reading, got, refused}
 use Rattle.image.specs.Answers.{limited, refusal}
-use Rattle.image.specs.Tabling.{CellRow, cellRow, celled, TwoCounts, twoCounts, counted}
+use Rattle.image.specs.Tabling.{CellRow, cellRow, celled, TwoCounts, twoCounts, counted, formatted}
+use Rattle.image.specs.declared.Format.{Format}
+use Rattle.image.specs.declared.Formatted.{Formatted}
+use Rattle.image.specs.declared.Formatted.the-variants as format
 use Rattle.image.specs.declared.Counted.{Counted}
 use Rattle.image.specs.declared.Counted.the-variants as both
 use Rattle.image.specs.declared.Celled.{Celled}
@@ -23,6 +26,15 @@ was-got (refused f q) e p = let z : _≡_ {A = ℕ} 0 1 = cc in absurd (omega ar
 pub was-refused : (r : Reading ℕ) {l : Limited} {q : Refusal} → l ≡ limited r → l ≡ Refused q → r ≡ refused (q .fault) (q .place)
 was-refused (got a n) e p = let z : _≡_ {A = ℕ} 0 1 = cc in absurd (omega arith)
 was-refused (refused f o) {l} {q} e p = let s : refusal f o ≡ q = cc in rw (← s)
+
+-- the same of the format
+pub was-format : (r : Reading Format) {l : Formatted} {m : Format} {next : ℕ} → l ≡ formatted r → l ≡ format.Read m next → r ≡ got m next
+was-format (got m n) e p = cc
+was-format (refused f q) e p = let z : _≡_ {A = ℕ} 0 1 = cc in absurd (omega arith)
+
+pub was-no-format : (r : Reading Format) {l : Formatted} {q : Refusal} → l ≡ formatted r → l ≡ format.Refused q → r ≡ refused (q .fault) (q .place)
+was-no-format (got m n) e p = let z : _≡_ {A = ℕ} 0 1 = cc in absurd (omega arith)
+was-no-format (refused f o) {l} {q} e p = let s : refusal f o ≡ q = cc in rw (← s)
 
 -- the same of a cell
 pub was-cell : (r : Reading CellRow) {l : Celled} {a v n next : ℕ} → l ≡ celled r → l ≡ cell.Cell a v n next → r ≡ got (cellRow a v n) next

@@ -57,8 +57,8 @@ kinds-small {t} g n h = known-small (few (g .few-structs)) (fits (g .few-types) 
     fits : {m : ℕ} → m ≤ 256 → n < m → n ≤ 256
     fits l k = omega arith
 
-module _ (words : ℕ) (image : List ℕ) (at : ℕ) where
-  pub tables-give : Gives (TablesRead image at) (readTables words image at)
+module _ (image : List ℕ) (at : ℕ) where
+  pub tables-give : Gives (TablesRead image at) (readTables image at)
   unfolding readTables
   tables-give =
       gives-then (below fault.Limit 33 image at) _ (below-gives fault.Limit 33 image at)
@@ -143,7 +143,7 @@ types-fill-all image S T at ts s w room =
           long = q .long ∙ length-set ts 0 1;
         }
 
-module _ (words : ℕ) (image : List ℕ) (at : ℕ) (ss ts : List ℕ) (room : 256 ≤ length ts) where
+module _ (image : List ℕ) (at : ℕ) (ss ts : List ℕ) (room : 256 ≤ length ts) where
   module _ {S at₁ T at₂ : ℕ} (e₁ : below fault.Limit 33 image at ≡ got S at₁) (e₂ : below fault.Limit 256 image at₁ ≡ got T at₂) where
     few : (S < 33) × (T < 256)
     few = (given-by (below-gives fault.Limit 33 image at) e₁ .limited-by, given-by (below-gives fault.Limit 256 image at₁) e₂ .limited-by)
@@ -152,7 +152,7 @@ module _ (words : ℕ) (image : List ℕ) (at : ℕ) (ss ts : List ℕ) (room : 
     structs-filled = rw (add-one T) (structs-held image T S at₂ ss)
 
     fourth : {xs : List (List ℕ)} {at₃ : ℕ} (e₃ : several (readStruct image T) S at₂ ≡ got xs at₃) (r : Reading (List Kind))
-        → readTypes image S T (Int ∷ []) at₃ ≡ r → TablesAre ss ts (readTables words image at) (tablesInto image at ss ts)
+        → readTypes image S T (Int ∷ []) at₃ ≡ r → TablesAre ss ts (readTables image at) (tablesInto image at ss ts)
     unfolding readTables tablesInto countsAt
     fourth {xs} {at₃} e₃ (got types at₄) e₄ =
         let sf = rw e₃ at structs-filled in
@@ -172,24 +172,24 @@ module _ (words : ℕ) (image : List ℕ) (at : ℕ) (ss ts : List ℕ) (room : 
         rw (e₁, e₂, e₃, e₄, fills-result sf, fills-result tf) tables-refused
 
     third : (r : Reading (List (List ℕ))) → several (readStruct image T) S at₂ ≡ r
-        → TablesAre ss ts (readTables words image at) (tablesInto image at ss ts)
+        → TablesAre ss ts (readTables image at) (tablesInto image at ss ts)
     unfolding readTables tablesInto countsAt
     third (got xs at₃) e₃ = fourth e₃ (readTypes image S T (Int ∷ []) at₃) refl
     third (refused f p) e₃ = let sf = rw e₃ at structs-filled in rw (e₁, e₂, e₃, fills-result sf) tables-refused
 
   second : {S at₁ : ℕ} (e₁ : below fault.Limit 33 image at ≡ got S at₁) (r : Reading ℕ) → below fault.Limit 256 image at₁ ≡ r
-      → TablesAre ss ts (readTables words image at) (tablesInto image at ss ts)
+      → TablesAre ss ts (readTables image at) (tablesInto image at ss ts)
   unfolding readTables tablesInto countsAt
   second {S} {at₁} e₁ (got T at₂) e₂ = third e₁ e₂ (several (readStruct image T) S at₂) refl
   second e₁ (refused f p) e₂ = rw (e₁, e₂) tables-refused
 
-  first : (r : Reading ℕ) → below fault.Limit 33 image at ≡ r → TablesAre ss ts (readTables words image at) (tablesInto image at ss ts)
+  first : (r : Reading ℕ) → below fault.Limit 33 image at ≡ r → TablesAre ss ts (readTables image at) (tablesInto image at ss ts)
   unfolding readTables tablesInto countsAt
   first (got S at₁) e₁ = second e₁ (below fault.Limit 256 image at₁) refl
   first (refused f p) e₁ = rw e₁ tables-refused
 
   -- The tables are read as the definition reads them, if there is room for the types.
-  pub tables-fill : TablesAre ss ts (readTables words image at) (tablesInto image at ss ts)
+  pub tables-fill : TablesAre ss ts (readTables image at) (tablesInto image at ss ts)
   tables-fill = first (below fault.Limit 33 image at) refl
 
 -- what the code knows of tables that were read, and of such that were refused

@@ -5,10 +5,13 @@ use mathlib.Core.Bool.{Bool, true, false}
 use mathlib.Core.List.{List}
 use Prim.Native.Nat.{ℕ, _<_, _≤_}
 use native.Mathlib.Omega.{arith}
-use lib.Dec.{eqb, leb}
+use lib.Dec.{leb}
 use lib.ListN.{length}
 use borrow.Author.Tests.{leb-false}
 use Rattle.choice.specs.Choice.{choose}
+use Rattle.calculus.specs.Operations.{operationOf}
+use Rattle.calculus.specs.declared.Operation.{Operation}
+use Rattle.calculus.specs.declared.Operation.the-variants as op
 use Rattle.calculus.specs.declared.Fault.the-variants as fault
 use Rattle.calculus.specs.declared.Refusal.{Refusal}
 use Rattle.image.specs.Reading.{Reading, got, refused, thenRead, number, below}
@@ -20,7 +23,7 @@ use Rattle.image.specs.declared.Parts.{Parts}
 use Rattle.image.specs.declared.Parts.the-variants.{Leaf, One, Two}
 use Rattle.image.specs.declared.NodeHead.{NodeHead}
 use Rattle.image.specs.declared.NodeHead.the-variants.{Read, Refused}
-use Rattle.image.proofs.Gives.{Gives, gives, gives-none, gives-test}
+use Rattle.image.proofs.Gives.{Gives, gives, gives-none}
 
 -- a second part is inside one let more at most
 pub data Few : Parts → Type 0 where
@@ -34,22 +37,20 @@ then-few (got a next) go k = k a next
 then-few (refused f p) go k = gives-none
 
 module _ (image types : List ℕ) (structs : ℕ) where
-  line-few : (lets first code at : ℕ) → Gives (λ l next. Few (l .parts)) (lineOf image types structs lets first code at)
+  line-few : (lets first : ℕ) (o : Operation) (at : ℕ) → Gives (λ l next. Few (l .parts)) (lineOf image types structs lets first o at)
   unfolding lineOf literal
-  line-few lets first code at =
-      gives-test (eqb code 0) _ _
-      (λ _. then-few (number image at) _ (λ n at₁. then-few (kindCode image types at₁) _ (λ k at₂. gives few-leaf))) λ _.
-      gives-test (eqb code 1) _ _ (λ _. then-few (below fault.Unknown lets image at) _ (λ k at₁. gives few-leaf)) λ _.
-      gives-test (eqb code 2) _ _ (λ _. gives (few-two (omega arith))) λ _.
-      gives-test (eqb code 3) _ _
-      (λ _. then-few (mapped (pointerCode 0) (readTarget image structs (length types) at)) _ (λ k at₁. gives few-leaf)) λ _.
-      gives-test (eqb code 4) _ _ (λ _. gives few-one) λ _.
-      gives-test (eqb code 5) _ _ (λ _. then-few (kindCode image types at) _ (λ k at₁. gives few-one)) λ _.
-      gives-test (eqb code 6) _ _ (λ _. gives few-one) λ _.
-      gives-test (eqb code 7) _ _ (λ _. gives (few-two (omega arith))) λ _.
-      gives-test (eqb code 8) _ _ (λ _. gives (few-two (omega arith))) λ _.
-      gives-test (eqb code 9) _ _ (λ _. then-few (number image at) _ (λ f at₁. gives few-one)) λ _.
-      gives-none
+  line-few lets first op.Literal at =
+      then-few (number image at) _ (λ n at₁. then-few (kindCode image types at₁) _ (λ k at₂. gives few-leaf))
+  line-few lets first op.Variable at = then-few (below fault.Unknown lets image at) _ (λ k at₁. gives few-leaf)
+  line-few lets first op.Let at = gives (few-two {b = 1} (omega arith))
+  line-few lets first op.Malloc at =
+      then-few (mapped (pointerCode 0) (readTarget image structs (length types) at)) _ (λ k at₁. gives few-leaf)
+  line-few lets first op.Unchecked at = gives few-one
+  line-few lets first op.Cast at = then-few (kindCode image types at) _ (λ k at₁. gives few-one)
+  line-few lets first op.Read at = gives few-one
+  line-few lets first (op.Acts o) at = gives (few-two {b = 0} (omega arith))
+  line-few lets first op.Field at = then-few (number image at) _ (λ f at₁. gives few-one)
+  line-few lets first op.Unknown at = gives-none
 
 -- a head that was read into row i, or a refusal
 data Told (i : ℕ) : Filled NodeHead → Type 0 where
@@ -79,7 +80,8 @@ module _ (image types : List ℕ) (structs lets i at : ℕ) (t : List ℕ) where
       code-told t i (number image at) _
       (λ code next. test-told i (leb 2048 i) _ _
       (λ _. told-refused)
-      (λ l. line-told t i code (lineOf image types structs lets at code next) (leb-false 2048 i l) (line-few image types structs lets at code next)))
+      (λ l. line-told t i code (lineOf image types structs lets at (operationOf code) next) (leb-false 2048 i l)
+      (line-few image types structs lets at (operationOf code) next)))
 
   module _ {r : NodeHead} {t′ : List ℕ} {p : Parts} {next : ℕ} (e : filled r t′ ≡ headInto image types structs lets i at t) (q : r ≡ Read p next) where
     told-result : headInto image types structs lets i at t .result ≡ Read p next

@@ -7,26 +7,29 @@ use mathlib.Core.List.{List}
 use Prim.Native.Nat.{ℕ, _+_, _*_, _<_, _≤_}
 use native.Mathlib.Nat.{zero-add}
 use native.Mathlib.Omega.{arith}
-use lib.Dec.{ltb}
+use lib.Dec.{eqb, ltb}
 use lib.ListN.{length, getD, take}
 use lib.Seq.{length-take-le, getD-take}
 use borrow.Author.Tests.{ltb-false}
+use Rattle.choice.specs.Choice.{choose-both}
 use Rattle.cells.specs.Code.{Small}
 use Rattle.cells.specs.declared.Kind.the-variants.{Int}
 use Rattle.calculus.specs.Expr.{Expr, nodes}
 use Rattle.calculus.specs.declared.Fault.{Fault}
-use Rattle.image.specs.Content.{Tables, Placed, Content}
-use Rattle.image.specs.Reading.{Reading, got, refused}
+use Rattle.image.specs.Content.{formatOne, Tables, Placed, Content}
+use Rattle.image.specs.Reading.{Reading, got, refused, number}
 use Rattle.image.specs.Image.{readFormat, readTables, readPlaced, readExpr, readImage}
 use Rattle.image.specs.Tabled.{Spans, Held}
 use Rattle.image.specs.Answers.{refusal}
 use Rattle.image.specs.Tabling.{tablesInto, placedInto, frontInto}
 use Rattle.image.specs.Filling.{answered, expressionInto}
-use Rattle.image.specs.Loaded.{Lent, lent, loadInto, counts, countsOf, loading}
-use Rattle.image.specs.declared.Counts.{Counts}
+use Rattle.image.specs.Loaded.{Lent, lent, loadInto, sizes, sizesOf, loading}
+use Rattle.image.specs.declared.Format.{Format}
+use Rattle.image.specs.declared.Sizes.{Sizes}
 use Rattle.image.specs.declared.Loading.the-variants.{Loaded, Refused}
 use Rattle.image.proofs.Gives.{Gives, gives, gives-none, gives-then, gives-test, gives-by}
 use Rattle.image.proofs.Each.{Each}
+use Rattle.image.proofs.Numbers.{number-gives}
 use Rattle.image.specs.Shape.{height, Scoped, Known, SmallExpr}
 use Rattle.image.proofs.Shapes.{Whole, expr-good, known-small}
 use Rattle.image.proofs.Rows.{Kept, spans-kept}
@@ -46,27 +49,22 @@ pub record ContentHeld (ss ts cs ns : List ℕ) (c : Content) (ss′ ts′ cs′
 
 pub data LoadAre (ss ts cs ns : List ℕ) : Reading Content → Lent → Type 0 where
   load-are : {c : Content} {next : ℕ} {ss′ ts′ cs′ ns′ : List ℕ} → ContentHeld ss ts cs ns c ss′ ts′ cs′ ns′
-      → LoadAre ss ts cs ns (got c next) (lent (Loaded (countsOf c)) ss′ ts′ cs′ ns′)
+      → LoadAre ss ts cs ns (got c next) (lent (Loaded (sizesOf c)) ss′ ts′ cs′ ns′)
   load-refused : {f : Fault} {p : ℕ} {ss′ ts′ cs′ ns′ : List ℕ}
       → LoadAre ss ts cs ns (refused f p) (lent (Refused (refusal f p)) ss′ ts′ cs′ ns′)
 
-counted : {ss ts cs ns : List ℕ} {c : Content} {n : Counts} {next : ℕ} {ss′ ts′ cs′ ns′ : List ℕ} → n ≡ countsOf c
+counted : {ss ts cs ns : List ℕ} {c : Content} {n : Sizes} {next : ℕ} {ss′ ts′ cs′ ns′ : List ℕ} → n ≡ sizesOf c
     → ContentHeld ss ts cs ns c ss′ ts′ cs′ ns′ → LoadAre ss ts cs ns (got c next) (lent (Loaded n) ss′ ts′ cs′ ns′)
 counted e h = rw e (load-are h)
-
--- the format does not depend on the heap
-format-any : (words : ℕ) (image : List ℕ) → readFormat words image ≡ readFormat 0 image
-unfolding readFormat
-format-any words image = refl
 
 module _ (words : ℕ) (image ss ts cs ns : List ℕ) (room : 256 ≤ length ts) where
   abbrev Are : Type 0
   Are = LoadAre ss ts cs ns (readImage words image) (loadInto words image ss ts cs ns)
 
-  module _ {v at₁ at₂ : ℕ} {t : Tables} (short : ltb 16384 (length image) ≡ false) (e₁ : readFormat 0 image ≡ got v at₁)
-      (e₂ : readTables words image at₁ ≡ got t at₂) where
+  module _ {m : Format} {at₁ at₂ : ℕ} {t : Tables} (short : ltb 16384 (length image) ≡ false) (e₁ : readFormat image ≡ got m at₁)
+      (e₂ : readTables image at₁ ≡ got t at₂) where
     o : TablesOpened ss ts t at₂ (tablesInto image at₁ ss ts)
-    o = tables-opened (rw e₂ at (tables-fill words image at₁ ss ts room))
+    o = tables-opened (rw e₂ at (tables-fill image at₁ ss ts room))
 
     -- the codes of the word types that were read
     abbrev codes : List ℕ
@@ -81,12 +79,12 @@ module _ (words : ℕ) (image ss ts cs ns : List ℕ) (room : 256 ≤ length ts)
       p : PlacedOpened cs ps at₃ (placedInto image words (tablesInto image at₁ ss ts .types) (o .T + 1) at₂ cs)
       p = placed-opened (rw e₃ at placed-all)
 
-      answer : expressionInto image codes (o .S) at₃ ns .result ≡ answered 0 (readExpr words image t at₃)
+      answer : expressionInto image codes (o .S) at₃ ns .result ≡ answered 0 (readExpr image t at₃)
       answer =
-          expression-result words image t codes (o .S) (o .held .types-table .codes) (o .held .structs-count) at₃ ns
+          expression-result image t codes (o .S) (o .held .types-table .codes) (o .held .structs-count) at₃ ns
 
-      held : {e : Expr} {at₄ : ℕ} → readExpr words image t at₃ ≡ got e at₄
-          → ContentHeld ss ts cs ns (record { tables = t; cells = ps; expr = e }) (tablesInto image at₁ ss ts .structs) (tablesInto image at₁ ss ts .types)
+      held : {e : Expr} {at₄ : ℕ} → readExpr image t at₃ ≡ got e at₄
+          → ContentHeld ss ts cs ns (record { format = m; tables = t; cells = ps; expr = e }) (tablesInto image at₁ ss ts .structs) (tablesInto image at₁ ss ts .types)
           (placedInto image words (tablesInto image at₁ ss ts .types) (o .T + 1) at₂ cs .table)
           (expressionInto image codes (o .S) at₃ ns .table)
       held e₄ =
@@ -95,44 +93,45 @@ module _ (words : ℕ) (image ss ts cs ns : List ℕ) (room : 256 ≤ length ts)
             types-table = rw (o .held .types-count) at (o .held .types-table);
             cells-table = rw (p .count) at (p .table-of);
             nodes-table =
-                expression-spans words image t codes (o .S) (o .held .types-table .codes) (o .held .structs-count) at₃ ns e₄;
+                expression-spans image t codes (o .S) (o .held .types-table .codes) (o .held .structs-count) at₃ ns e₄;
             nodes-kept =
-                expression-kept words image t codes (o .S) (o .held .types-table .codes) (o .held .structs-count) at₃ ns e₄;
+                expression-kept image t codes (o .S) (o .held .types-table .codes) (o .held .structs-count) at₃ ns e₄;
           }
 
-      counted-as : (e : Expr) → counts (o .S) (o .T + 1) (p .C) (0 + nodes e) ≡ countsOf (record { tables = t; cells = ps; expr = e })
+      counted-as : (e : Expr) → sizes m (o .S) (o .T + 1) (p .C) (0 + nodes e) ≡ sizesOf (record { format = m; tables = t; cells = ps; expr = e })
       counted-as e = rw (o .held .structs-count, o .held .types-count, p .count, zero-add)
 
-      expr-case : (r : Reading Expr) → readExpr words image t at₃ ≡ r → Are
+      expr-case : (r : Reading Expr) → readExpr image t at₃ ≡ r → Are
       unfolding readImage loadInto frontInto
       expr-case (got e at₄) e₄ =
-          rw (short, format-any words image, e₁, e₂, e₃, o .answer, p .answer, answer, e₄) (counted (counted-as e) (held e₄))
-      expr-case (refused f q) e₄ = rw (short, format-any words image, e₁, e₂, e₃, o .answer, p .answer, answer, e₄) load-refused
+          rw (short, e₁, e₂, e₃, o .answer, p .answer, answer, e₄)
+          (choose-both (LoadAre ss ts cs ns) (ltb at₄ (length image)) _ _ _ _ load-refused (counted (counted-as e) (held e₄)))
+      expr-case (refused f q) e₄ = rw (short, e₁, e₂, e₃, o .answer, p .answer, answer, e₄) load-refused
 
     cells-case : (r : Reading (List Placed)) → readPlaced words image t at₂ ≡ r → Are
     unfolding readImage loadInto frontInto
-    cells-case (got ps at₃) e₃ = expr-case e₃ (readExpr words image t at₃) refl
+    cells-case (got ps at₃) e₃ = expr-case e₃ (readExpr image t at₃) refl
     cells-case (refused f p) e₃ =
         let q = placed-unopened (rw e₃ at placed-all) in
-        rw (short, format-any words image, e₁, e₂, e₃, o .answer, q) load-refused
+        rw (short, e₁, e₂, e₃, o .answer, q) load-refused
 
-  tables-case : {v at₁ : ℕ} → ltb 16384 (length image) ≡ false → readFormat 0 image ≡ got v at₁ → (r : Reading Tables)
-      → readTables words image at₁ ≡ r → Are
+  tables-case : {m : Format} {at₁ : ℕ} → ltb 16384 (length image) ≡ false → readFormat image ≡ got m at₁ → (r : Reading Tables)
+      → readTables image at₁ ≡ r → Are
   unfolding readImage loadInto frontInto
-  tables-case {v} {at₁} short e₁ (got t at₂) e₂ = cells-case short e₁ e₂ (readPlaced words image t at₂) refl
-  tables-case {v} {at₁} short e₁ (refused f p) e₂ =
-      let q = tables-unopened (rw e₂ at (tables-fill words image at₁ ss ts room)) in
-      rw (short, format-any words image, e₁, e₂, q) load-refused
+  tables-case {m} {at₁} short e₁ (got t at₂) e₂ = cells-case short e₁ e₂ (readPlaced words image t at₂) refl
+  tables-case {m} {at₁} short e₁ (refused f p) e₂ =
+      let q = tables-unopened (rw e₂ at (tables-fill image at₁ ss ts room)) in
+      rw (short, e₁, e₂, q) load-refused
 
-  format-case : ltb 16384 (length image) ≡ false → (r : Reading ℕ) → readFormat 0 image ≡ r → Are
+  format-case : ltb 16384 (length image) ≡ false → (r : Reading Format) → readFormat image ≡ r → Are
   unfolding readImage loadInto frontInto
-  format-case short (got v at₁) e₁ = tables-case short e₁ (readTables words image at₁) refl
-  format-case short (refused f p) e₁ = rw (short, format-any words image, e₁) load-refused
+  format-case short (got m at₁) e₁ = tables-case short e₁ (readTables image at₁) refl
+  format-case short (refused f p) e₁ = rw (short, e₁) load-refused
 
   length-case : (b : Bool) → ltb 16384 (length image) ≡ b → Are
   unfolding readImage loadInto frontInto
   length-case true long = rw long load-refused
-  length-case false short = format-case short (readFormat 0 image) refl
+  length-case false short = format-case short (readFormat image) refl
 
   pub load-fill : LoadAre ss ts cs ns (readImage words image) (loadInto words image ss ts cs ns)
   load-fill = length-case (ltb 16384 (length image)) refl
@@ -170,6 +169,7 @@ held-all {ns = ns} {c = c} {ns′ = ns′} h s k n =
 
 -- what holds of the content of every image that is not refused
 pub record ContentRead (words : ℕ) (image : List ℕ) (c : Content) (next : ℕ) : Type 0 where
+  pub format-is : c .format ≡ formatOne
   pub tables-good : TablesGood (c .tables)
   pub few-cells : length (c .cells) ≤ 4096
   pub cells-rise : Rising words (c .tables .types) 0 (c .cells)
@@ -181,21 +181,30 @@ pub record ContentRead (words : ℕ) (image : List ℕ) (c : Content) (next : �
   pub short : length image ≤ 16384
   pub ends : next ≡ length image
 
+-- the format is 1's
+format-gives : (image : List ℕ) → Gives (λ m next. m ≡ formatOne) (readFormat image)
+unfolding readFormat
+format-gives image =
+    gives-then (number image 0) _ (number-gives image 0)
+    (λ v at _. gives-test (eqb v 1) _ _ (λ _. gives refl) (λ _. gives-none))
+
 pub content-gives : (words : ℕ) (image : List ℕ) → Gives (ContentRead words image) (readImage words image)
 unfolding readImage
 content-gives words image =
     gives-test (ltb 16384 (length image)) _ _ (λ _. gives-none)
-    (λ short. gives-then (readFormat words image) _ (gives-by {P = λ _ _. Unit {0}} (readFormat words image) (λ _ _ _. tt))
-    (λ v at₁ _. gives-then (readTables words image at₁) _ (tables-give words image at₁)
+    (λ short. gives-then (readFormat image) _ (format-gives image)
+    (λ m at₁ one. gives-then (readTables image at₁) _ (tables-give image at₁)
     (λ t at₂ s. gives-then (readPlaced words image t at₂) _ (placed-give words image t at₂)
-    (λ ps at₃ p. gives-then (readExpr words image t at₃) _ (gives-by (readExpr words image t at₃) (λ e at₄ q. expr-good words image t at₃ q))
-    (λ e at₄ w. gives (content v at₁ t at₂ ps at₃ e at₄ (ltb-false 16384 (length image) short) s p w))))))
+    (λ ps at₃ p. gives-then (readExpr image t at₃) _ (gives-by (readExpr image t at₃) (λ e at₄ q. expr-good image t at₃ q))
+    (λ e at₄ w. gives-test (ltb at₄ (length image)) _ _ (λ _. gives-none)
+    (λ all. gives (content m at₁ t at₂ ps at₃ e at₄ (ltb-false 16384 (length image) short) one s p w (ltb-false at₄ (length image) all))))))))
   where
-    content : (v at₁ : ℕ) (t : Tables) (at₂ : ℕ) (ps : List Placed) (at₃ : ℕ) (e : Expr) (at₄ : ℕ) → length image ≤ 16384
-        → TablesRead image at₁ t at₂ → PlacedRead image words (t .types) at₂ ps at₃ → Whole image t at₃ e at₄
-        → ContentRead words image (record { tables = t; cells = ps; expr = e }) at₄
-    content v at₁ t at₂ ps at₃ e at₄ l s p w =
+    content : (m : Format) (at₁ : ℕ) (t : Tables) (at₂ : ℕ) (ps : List Placed) (at₃ : ℕ) (e : Expr) (at₄ : ℕ) → length image ≤ 16384 → m ≡ formatOne
+        → TablesRead image at₁ t at₂ → PlacedRead image words (t .types) at₂ ps at₃ → Whole image t at₃ e at₄ → length image ≤ at₄
+        → ContentRead words image (record { format = m; tables = t; cells = ps; expr = e }) at₄
+    content m at₁ t at₂ ps at₃ e at₄ l one s p w all =
         record {
+          format-is = one;
           tables-good = s .good;
           few-cells = p .few;
           cells-rise = p .rises;
@@ -205,7 +214,7 @@ content-gives words image =
           expr-known = w .known;
           bytes = omega (arith, p .onward, w .long, w .ends);
           short = l;
-          ends = w .ends;
+          ends = omega (arith, w .ends);
         }
 
 -- the numbers of every kind in it fit the packed code

@@ -13,6 +13,9 @@ use lib.Seq.{getD-set-same, getD-set-other}
 use Rattle.choice.specs.Choice.{choose}
 use Rattle.cells.specs.Code.{packed}
 use Rattle.calculus.specs.Expr.{Expr, bind, one, two, nodes, One}
+use Rattle.calculus.specs.Operations.{operationOf}
+use Rattle.calculus.specs.declared.Operation.{Operation}
+use Rattle.calculus.specs.declared.Operation.the-variants as op
 use Rattle.calculus.specs.declared.Fault.{Fault}
 use Rattle.calculus.specs.declared.Fault.the-variants as fault
 use Rattle.calculus.specs.declared.Refusal.{Refusal}
@@ -20,10 +23,10 @@ use Rattle.image.specs.Content.{Tables}
 use Rattle.image.specs.Reading.{Reading, got, refused, thenRead, number, carried}
 use Rattle.image.specs.Nodes.{Head, parts, readHead, readParts, readNode}
 use Rattle.image.specs.Image.{readExpr}
-use Rattle.image.specs.Tabled.{oneCode, oneArgument, oneKind, twoCode, Row, Spans, s-lit, s-var, s-malloc, s-bind, s-one, s-two}
+use Rattle.image.specs.Tabled.{oneOperation, oneArgument, oneKind, twoOperation, Row, Spans, s-lit, s-var, s-malloc, s-bind, s-one, s-two}
 use Rattle.image.specs.Answers.{refusal}
 use Rattle.image.specs.Filled.{Filled, filled, thenFill}
-use Rattle.image.specs.Filling.{Line, written, codeInto, lineInto, answered, cut, secondInto, partsInto, headInto, nodeInto, ended, expressionInto}
+use Rattle.image.specs.Filling.{Line, written, codeInto, lineInto, answered, cut, secondInto, partsInto, headInto, nodeInto, carriedBack, expressionInto}
 use Rattle.image.specs.declared.NodeHead.{NodeHead}
 use Rattle.image.specs.declared.NodeHead.the-variants as head
 use Rattle.image.specs.declared.Expression.{Expression}
@@ -40,16 +43,17 @@ pub data Into (t : List ℕ) (i : ℕ) : Filled Expression → Reading Expr → 
 
 -- the same of a head in row i
 data HeadInto (t : List ℕ) (i : ℕ) : Filled NodeHead → Reading Head → Type 0 where
-  head-into : {code next : ℕ} {l : Line} {h : Head} → Tells code l h → HeadInto t i (filled (head.Read (l .parts) next) (written t i code (l .argument) (l .kind))) (got h next)
+  head-into : (code : ℕ) {next : ℕ} {o : Operation} {l : Line} {h : Head} → operationOf code ≡ o → Tells o l h
+      → HeadInto t i (filled (head.Read (l .parts) next) (written t i code (l .argument) (l .kind))) (got h next)
   head-stopped : {f : Fault} {p : ℕ} → HeadInto t i (filled (head.Refused (refusal f p)) t) (refused f p)
 
 -- a node without parts
-leaf-into : {t t′ : List ℕ} {i code argument kind next : ℕ} {e : Expr} → nodes e ≡ 1 → Opened t i t′ code argument kind
-    → (Row t′ i code argument kind 0 → Spans t′ i e) → Into t i (filled (Read next (i + 1)) t′) (got e next)
+leaf-into : {t t′ : List ℕ} {i : ℕ} {operation : Operation} {argument kind next : ℕ} {e : Expr} → nodes e ≡ 1 → Opened t i t′ operation argument kind
+    → (Row t′ i operation argument kind 0 → Spans t′ i e) → Into t i (filled (Read next (i + 1)) t′) (got e next)
 leaf-into {i = i} {e = e} n o span = into {e = e} {count = i + 1} (omega arith) (o .kept) (λ room. span (o .row (omega arith)))
 
 -- a node with one part, which went into the table behind it
-one-into : {t t₁ : List ℕ} {i : ℕ} (o : One) {F : Filled Expression} {r : Reading Expr} → Opened t i t₁ (oneCode o) (oneArgument o) (oneKind o)
+one-into : {t t₁ : List ℕ} {i : ℕ} (o : One) {F : Filled Expression} {r : Reading Expr} → Opened t i t₁ (oneOperation o) (oneArgument o) (oneKind o)
     → Into t₁ (i + 1) F r → Into t i F (thenRead r (λ e next. got (one o e) next))
 unfolding nodes
 one-into {t} {t₁} {i} o w (into {e} {next} {count} {t′} c k span) =
@@ -66,9 +70,9 @@ one-into {t} {t₁} {i} o w (into {e} {next} {count} {t′} c k span) =
 one-into o w (stopped e) = stopped (e ∙ w .kept .long)
 
 -- a node with two parts, of which `mk` makes the expression
-module _ (mk : Expr → Expr → Expr) (code : ℕ) (counts : (a b : Expr) → nodes (mk a b) ≡ suc (nodes a + nodes b))
-    (spanned : (t : List ℕ) (i : ℕ) (a b : Expr) → Row t i code 0 0 (suc i + nodes a) → Spans t (suc i) a → Spans t (suc i + nodes a) b → Spans t i (mk a b))
-    {t t₁ : List ℕ} {i : ℕ} (w : Opened t i t₁ code 0 0) where
+module _ (mk : Expr → Expr → Expr) (operation : Operation) (counts : (a b : Expr) → nodes (mk a b) ≡ suc (nodes a + nodes b))
+    (spanned : (t : List ℕ) (i : ℕ) (a b : Expr) → Row t i operation 0 0 (suc i + nodes a) → Spans t (suc i) a → Spans t (suc i + nodes a) b → Spans t i (mk a b))
+    {t t₁ : List ℕ} {i : ℕ} (w : Opened t i t₁ operation 0 0) where
   -- the first part went into t₂, the second behind it
   second-after : {a : Expr} {count : ℕ} {t₂ : List ℕ} {F : Filled Expression} {r : Reading Expr}
       → count ≡ suc i + nodes a → Kept t₁ (i + 1) count t₂ → (4 * count ≤ length t₁ → Spans t₂ (i + 1) a)
@@ -86,12 +90,12 @@ module _ (mk : Expr → Expr → Expr) (code : ℕ) (counts : (a b : Expr) → n
       })
       (λ room.
       let lengths : length t₂ ≡ length t = k .long ∙ w .kept .long in
-      let row : Row t₁ i code 0 0 0 = w .row (omega arith) in
+      let row : Row t₁ i operation 0 0 0 = w .row (omega arith) in
       let same : (x : ℕ) → x < 4 * i + 3 → getD t₄ x 0 ≡ getD t₁ x 0 =
       λ x h. m .front x (omega arith) ∙ other x (λ e. omega arith) ∙ k .front x (omega arith) in
       spanned t₄ i a b
       (record {
-        code-is = same (4 * i) (omega arith) ∙ row .code-is;
+        operation-is = ap operationOf (same (4 * i) (omega arith)) ∙ row .operation-is;
         argument-is = same (4 * i + 1) (omega arith) ∙ row .argument-is;
         kind-is = same (4 * i + 2) (omega arith) ∙ row .kind-is;
         second-is = m .front (4 * i + 3) (omega arith) ∙ getD-set-same t₂ (4 * i + 3) count 0 (omega arith) ∙ c;
@@ -134,16 +138,16 @@ module _ (image : List ℕ) (tables : Tables) (put : ℕ → ℕ → ℕ → Lis
   parts-into : {t : List ℕ} {i : ℕ} {F : Filled NodeHead} {r : Reading Head} (lets : ℕ) → HeadInto t i F r
       → Into t i (thenFill F (partsInto put lets i)) (thenRead r (λ h next. readParts image tables get lets i h next))
   unfolding readParts nodes
-  parts-into {t} {i} lets (head-into {code} {next} {l} tells-lit) = leaf-into refl (written-opens t i code (l .argument) (l .kind)) s-lit
-  parts-into {t} {i} lets (head-into {code} {next} {l} tells-var) = leaf-into refl (written-opens t i code (l .argument) (l .kind)) s-var
-  parts-into {t} {i} lets (head-into {code} {next} {l} tells-malloc) = leaf-into refl (written-opens t i code (l .argument) (l .kind)) s-malloc
-  parts-into {t} {i} lets (head-into {code} {next} {l} (tells-part o)) =
-      one-into o (written-opens t i code (l .argument) (l .kind)) (next-part lets i next (written t i code (l .argument) (l .kind)))
-  parts-into {t} {i} lets (head-into {code} {next} {l} (tells-parts o)) =
-      two-into (two o) (twoCode o) (λ a b. refl) (λ t i a b. s-two) (written-opens t i code (l .argument) (l .kind)) put get (lets + 0) lets (same-lets lets)
+  parts-into {t} {i} lets (head-into code {next} {l = l} q tells-lit) = leaf-into refl (written-opens t i code (l .argument) (l .kind) q) s-lit
+  parts-into {t} {i} lets (head-into code {next} {l = l} q tells-var) = leaf-into refl (written-opens t i code (l .argument) (l .kind) q) s-var
+  parts-into {t} {i} lets (head-into code {next} {l = l} q tells-malloc) = leaf-into refl (written-opens t i code (l .argument) (l .kind) q) s-malloc
+  parts-into {t} {i} lets (head-into code {next} {l = l} q (tells-part o)) =
+      one-into o (written-opens t i code (l .argument) (l .kind) q) (next-part lets i next (written t i code (l .argument) (l .kind)))
+  parts-into {t} {i} lets (head-into code {next} {l = l} q (tells-parts o)) =
+      two-into (two o) (twoOperation o) (λ a b. refl) (λ t i a b. s-two) (written-opens t i code (l .argument) (l .kind) q) put get (lets + 0) lets (same-lets lets)
       (next-part lets i next (written t i code (l .argument) (l .kind)))
-  parts-into {t} {i} lets (head-into {code} {next} {l} tells-binding) =
-      two-into bind 2 (λ a b. refl) (λ t i a b. s-bind) (written-opens t i code (l .argument) (l .kind)) put get (lets + 1) (suc lets) (more-lets lets)
+  parts-into {t} {i} lets (head-into code {next} {l = l} q tells-binding) =
+      two-into bind op.Let (λ a b. refl) (λ t i a b. s-bind) (written-opens t i code (l .argument) (l .kind) q) put get (lets + 1) (suc lets) (more-lets lets)
       (next-part lets i next (written t i code (l .argument) (l .kind)))
   parts-into lets head-stopped = stopped refl
 
@@ -153,8 +157,8 @@ code-into : (t : List ℕ) (i : ℕ) (r : Reading ℕ) (go : ℕ → ℕ → Fil
 code-into t i (got code next) go go′ k = k code next
 code-into t i (refused f p) go go′ k = head-stopped
 
-line-into : {r : Reading Line} {s : Reading Head} (t : List ℕ) (i code : ℕ) → Alike (Tells code) r s → HeadInto t i (lineInto t i code r) s
-line-into t i code (alike w) = head-into w
+line-into : {r : Reading Line} {s : Reading Head} (t : List ℕ) (i code : ℕ) → Alike (Tells (operationOf code)) r s → HeadInto t i (lineInto t i code r) s
+line-into t i code (alike w) = head-into code refl w
 line-into t i code alike-refused = head-stopped
 
 test-into : (t : List ℕ) (i : ℕ) (b : Bool) (x y : Unit {0} → Filled NodeHead) (x′ y′ : Unit {0} → Reading Head)
@@ -190,7 +194,7 @@ module _ (image : List ℕ) (tables : Tables) (types : List ℕ) (structs : ℕ)
   head-is lets i at t =
       code-into t i (number image at) _ _
       (λ code next. test-into t i (leb 2048 i) _ _ _ _ head-stopped
-      (rw (types-are, structs-are) (line-into t i code (line-alike image tables lets at code next))))
+      (rw (types-are, structs-are) (line-into t i code (line-alike image tables lets at (operationOf code) next))))
 
   node-is : (deep lets i at : ℕ) (t : List ℕ) → Into t i (nodeInto image types structs deep lets i at t) (readNode image tables deep lets i at)
   unfolding nodeInto readNode
@@ -219,56 +223,44 @@ module _ (image : List ℕ) (tables : Tables) (types : List ℕ) (structs : ℕ)
     pub node-kept : Kept t i (i + nodes e) (nodeInto image types structs deep lets i at t .table)
     node-kept = into-kept was-read
 
--- ---- the whole expression, from `at` on
-abbrev behindNone : (image : List ℕ) → Expr → ℕ → Reading Expr
-behindNone image e next = choose (ltb next (length image)) (λ _. refused fault.Behind next) (λ _. got e next)
+-- The whole expression, from `at` on: what was answered is carried back.
+carried-answered : (at : ℕ) (r : Reading Expr) → carriedBack at (answered 0 r) ≡ answered 0 (carried at r)
+carried-answered at (got e next) = refl
+carried-answered at (refused f p) = refl
 
-ended-answered : (image : List ℕ) (at : ℕ) (r : Reading Expr) → ended image at (answered 0 r) ≡ answered 0 (thenRead (carried at r) (behindNone image))
-ended-answered image at (got e next) = go (ltb (at + next) (length image))
-  where
-    go : (b : Bool) → choose b (λ _. Refused (refusal fault.Behind (at + next))) (λ _. Read (at + next) (0 + nodes e))
-        ≡ answered 0 (choose b (λ _. refused fault.Behind (at + next)) (λ _. got e (at + next)))
-    go true = refl
-    go false = refl
-ended-answered image at (refused f p) = refl
-
--- what the table holds of an expression with nothing behind it
+-- what the table holds of an expression
 record Left (t t′ : List ℕ) (e : Expr) (next : ℕ) : Type 0 where
   spans : 4 * nodes e ≤ length t → Spans t′ 0 e
   kept : Kept t 0 (nodes e) t′
 
-left-behind : {t : List ℕ} {F : Filled Expression} {r : Reading Expr} (image : List ℕ) (at : ℕ) → Into t 0 F r
-    → Gives (Left t (F .table)) (thenRead (carried at r) (behindNone image))
-left-behind image at (into {e} {next} {count} c k span) =
-    let d : count ≡ nodes e = omega arith in
-    gives-test (ltb (at + next) (length image)) _ _
-    (λ _. gives-none)
-    (λ _. gives (record { spans = λ room. span (omega arith); kept = rw d at k }))
-left-behind image at (stopped e) = gives-none
+left-behind : {t : List ℕ} {F : Filled Expression} {r : Reading Expr} (at : ℕ) → Into t 0 F r → Gives (Left t (F .table)) (carried at r)
+left-behind at (into {e} {next} {count} c k span) =
+    let d : count ≡ nodes e = omega arith in gives (record { spans = λ room. span (omega arith); kept = rw d at k })
+left-behind at (stopped e) = gives-none
 
-module _ (words : ℕ) (image : List ℕ) (tables : Tables) (types : List ℕ) (structs : ℕ) (types-are : types ≡ map packed (tables .types))
+module _ (image : List ℕ) (tables : Tables) (types : List ℕ) (structs : ℕ) (types-are : types ≡ map packed (tables .types))
     (structs-are : structs ≡ length (tables .structs)) (at : ℕ) (t : List ℕ) where
   -- The answer is the definition's.
-  pub expression-result : expressionInto image types structs at t .result ≡ answered 0 (readExpr words image tables at)
+  pub expression-result : expressionInto image types structs at t .result ≡ answered 0 (readExpr image tables at)
   unfolding expressionInto readExpr
   expression-result =
-      ap (ended image at) (node-result (drop at image) tables types structs types-are structs-are 64 0 0 0 t)
-      ∙ ended-answered image at (readNode (drop at image) tables 64 0 0 0)
+      ap (carriedBack at) (node-result (drop at image) tables types structs types-are structs-are 64 0 0 0 t)
+      ∙ carried-answered at (readNode (drop at image) tables 64 0 0 0)
 
   pub expression-length : length (expressionInto image types structs at t .table) ≡ length t
   unfolding expressionInto
   expression-length = node-length (drop at image) tables types structs types-are structs-are 64 0 0 0 t
 
-  left : {e : Expr} {next : ℕ} → readExpr words image tables at ≡ got e next → Left t (expressionInto image types structs at t .table) e next
+  left : {e : Expr} {next : ℕ} → readExpr image tables at ≡ got e next → Left t (expressionInto image types structs at t .table) e next
   unfolding expressionInto readExpr
-  left q = given-by (left-behind image at (node-is (drop at image) tables types structs types-are structs-are 64 0 0 0 t)) q
+  left q = given-by (left-behind at (node-is (drop at image) tables types structs types-are structs-are 64 0 0 0 t)) q
 
   -- An expression that was read is held by the table from its first row on, if there is room, and the rows behind it are as they were.
-  pub expression-spans : {e : Expr} {next : ℕ} → readExpr words image tables at ≡ got e next → 4 * nodes e ≤ length t
+  pub expression-spans : {e : Expr} {next : ℕ} → readExpr image tables at ≡ got e next → 4 * nodes e ≤ length t
       → Spans (expressionInto image types structs at t .table) 0 e
   expression-spans q room = left q .spans room
 
-  pub expression-kept : {e : Expr} {next : ℕ} → readExpr words image tables at ≡ got e next
+  pub expression-kept : {e : Expr} {next : ℕ} → readExpr image tables at ≡ got e next
       → Kept t 0 (nodes e) (expressionInto image types structs at t .table)
   expression-kept q = left q .kept
 

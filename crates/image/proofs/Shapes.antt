@@ -14,6 +14,9 @@ use Rattle.cells.specs.declared.Mode.the-variants.{Checked}
 use Rattle.cells.specs.declared.Kind.{Kind}
 use Rattle.cells.specs.declared.Kind.the-variants.{Int}
 use Rattle.calculus.specs.Expr.{Expr, lit, var, malloc, bind, one, two, nodes, One, Two, Target, pointer}
+use Rattle.calculus.specs.Operations.{operationOf}
+use Rattle.calculus.specs.declared.Operation.{Operation}
+use Rattle.calculus.specs.declared.Operation.the-variants as op
 use Rattle.calculus.specs.declared.Fault.the-variants as fault
 use Rattle.image.specs.Content.{Tables}
 use Rattle.image.specs.Reading.{Reading, got, refused, thenRead, number, below, carried}
@@ -76,32 +79,32 @@ module _ (image : List ℕ) (t : Tables) where
       (λ k at₂ b. gives-then (below fault.Unknown (length (t .types)) image at₂) _ (below-gives fault.Unknown (length (t .types)) image at₂)
       (λ n at₃ d. gives (known-array (b .limited-by) (d .limited-by), record { not-before = omega arith; inside = d .within }))))))
 
-  head-of-gives : (lets first code at : ℕ) → at ≤ length image
-      → Gives (λ h next. Sane t lets h × Past image at next) (headOf image t lets first code at)
+  here : (at : ℕ) → at ≤ length image → Past image at at
+  here at w = record { not-before = omega arith; inside = w }
+
+  head-of-gives : (lets first : ℕ) (o : Operation) (at : ℕ) → at ≤ length image
+      → Gives (λ h next. Sane t lets h × Past image at next) (headOf image t lets first o at)
   unfolding headOf
-  head-of-gives lets first code at w =
-      let here : Past image at at = record { not-before = omega arith; inside = w } in
-      gives-test (eqb code 0) _ _
-      (λ _. gives-then (number image at) _ (number-gives image at)
+  head-of-gives lets first op.Literal at w =
+      gives-then (number image at) _ (number-gives image at)
       (λ n at₁ a. gives-then (readKind image t at₁) _ (kind-gives at₁)
-      (λ κ at₂ b. gives (sane-lit (a .fits) (b .0), record { not-before = omega arith; inside = b .1 .inside })))) λ _.
-      gives-test (eqb code 1) _ _
-      (λ _. gives-then (below fault.Unknown lets image at) _ (below-gives fault.Unknown lets image at)
-      (λ k at₁ a. gives (sane-var (a .limited-by), record { not-before = omega arith; inside = a .within }))) λ _.
-      gives-test (eqb code 2) _ _ (λ _. gives (sane-binding, here)) λ _.
-      gives-test (eqb code 3) _ _
-      (λ _. gives-then (readTarget image (length (t .structs)) (length (t .types)) at) _ (target-gives at)
-      (λ ω at₁ a. gives (sane-malloc (a .0), a .1))) λ _.
-      gives-test (eqb code 4) _ _ (λ _. gives (sane-part known-unchecked, here)) λ _.
-      gives-test (eqb code 5) _ _
-      (λ _. gives-then (readKind image t at) _ (kind-gives at) (λ κ at₁ a. gives (sane-part (known-cast (a .0)), a .1))) λ _.
-      gives-test (eqb code 6) _ _ (λ _. gives (sane-part known-read, here)) λ _.
-      gives-test (eqb code 7) _ _ (λ _. gives (sane-parts, here)) λ _.
-      gives-test (eqb code 8) _ _ (λ _. gives (sane-parts, here)) λ _.
-      gives-test (eqb code 9) _ _
-      (λ _. gives-then (number image at) _ (number-gives image at)
-      (λ f at₁ a. gives (sane-part (known-field (a .fits)), record { not-before = omega arith; inside = a .within }))) λ _.
-      gives-none
+      (λ κ at₂ b. gives (sane-lit (a .fits) (b .0), record { not-before = omega arith; inside = b .1 .inside })))
+  head-of-gives lets first op.Variable at w =
+      gives-then (below fault.Unknown lets image at) _ (below-gives fault.Unknown lets image at)
+      (λ k at₁ a. gives (sane-var (a .limited-by), record { not-before = omega arith; inside = a .within }))
+  head-of-gives lets first op.Let at w = gives (sane-binding, here at w)
+  head-of-gives lets first op.Malloc at w =
+      gives-then (readTarget image (length (t .structs)) (length (t .types)) at) _ (target-gives at)
+      (λ ω at₁ a. gives (sane-malloc (a .0), a .1))
+  head-of-gives lets first op.Unchecked at w = gives (sane-part known-unchecked, here at w)
+  head-of-gives lets first op.Cast at w =
+      gives-then (readKind image t at) _ (kind-gives at) (λ κ at₁ a. gives (sane-part (known-cast (a .0)), a .1))
+  head-of-gives lets first op.Read at w = gives (sane-part known-read, here at w)
+  head-of-gives lets first (op.Acts o) at w = gives (sane-parts, here at w)
+  head-of-gives lets first op.Field at w =
+      gives-then (number image at) _ (number-gives image at)
+      (λ f at₁ a. gives (sane-part (known-field (a .fits)), record { not-before = omega arith; inside = a .within }))
+  head-of-gives lets first op.Unknown at w = gives-none
 
   -- a head with room for its node, behind its code
   record Headed (lets before at : ℕ) (h : Head) (next : ℕ) : Type 0 where
@@ -118,7 +121,7 @@ module _ (image : List ℕ) (t : Tables) where
       (λ _. gives-none)
       (λ l. gives-more
       (λ h next s. record { room = leb-false 2048 before l; sane = s .0; behind = omega arith; inside = s .1 .inside })
-      (head-of-gives lets at code at₁ (a .within))))
+      (head-of-gives lets at (operationOf code) at₁ (a .within))))
 
   -- a node without parts
   leaf-good : (deep lets before at : ℕ) {e : Expr} {next : ℕ} → Sane t lets (leaf e) → before < 2048 → at < next → next ≤ length image
@@ -193,34 +196,31 @@ module _ (image : List ℕ) (t : Tables) where
 pub good-behind : {image : List ℕ} {t : Tables} {deep lets before at : ℕ} {e : Expr} {next : ℕ} → Good image t deep lets before at e next → at < next
 good-behind {e = e} g = omega (arith, nodes-some e)
 
--- The whole expression: it ends with the image.
+-- The whole expression, from `at` on.
 pub record Whole (image : List ℕ) (t : Tables) (at : ℕ) (e : Expr) (next : ℕ) : Type 0 where
   pub few : nodes e ≤ 2048
   pub low : height e ≤ 64
   pub scoped : Scoped 0 e
   pub known : Known t e
   pub long : at + nodes e ≤ next
-  pub ends : next ≡ length image
+  pub ends : next ≤ length image
 
-module _ (words : ℕ) (image : List ℕ) (t : Tables) (at : ℕ) where
-  whole : {e : Expr} {next : ℕ} → Good (drop at image) t 64 0 0 0 e next → length image ≤ at + next → Whole image t at e (at + next)
-  whole {e} g l =
-      record {
+module _ (image : List ℕ) (t : Tables) (at : ℕ) where
+  expr-gives : (r : Reading Expr) → Gives (Good (drop at image) t 64 0 0 0) r → Gives (Whole image t at) (carried at r)
+  expr-gives (got e next) (gives g) =
+      gives
+      {a = e} {next = at + next}
+      (record {
         few = omega arith;
         low = g .low;
         scoped = g .scoped;
         known = g .known;
         long = omega arith;
         ends = omega (arith, length-drop at image, nodes-some e);
-      }
-
-  expr-gives : (r : Reading Expr) → Gives (Good (drop at image) t 64 0 0 0) r
-      → Gives (Whole image t at) (thenRead (carried at r) (λ e next. choose (ltb next (length image)) (λ _. refused fault.Behind next) (λ _. got e next)))
-  expr-gives (got e next) (gives g) =
-      gives-test (ltb (at + next) (length image)) _ _ (λ _. gives-none) (λ l. gives (whole g (ltb-false (at + next) (length image) l)))
+      })
   expr-gives (refused f p) g = gives-none
 
-  pub expr-good : {e : Expr} {next : ℕ} → readExpr words image t at ≡ got e next → Whole image t at e next
+  pub expr-good : {e : Expr} {next : ℕ} → readExpr image t at ≡ got e next → Whole image t at e next
   unfolding readExpr
   expr-good q = given-by (expr-gives (readNode (drop at image) t 64 0 0 0) (node-gives (drop at image) t 64 0 0 0)) q
 

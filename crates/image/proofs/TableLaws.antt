@@ -11,9 +11,12 @@ use Rattle.calculus.specs.declared.Refusal.{Refusal}
 use Rattle.calculus.specs.declared.Fault.the-variants as fault
 use Rattle.image.specs.Reading.{Reading, got, refused, below}
 use Rattle.image.specs.Filled.{filled}
-use Rattle.image.specs.Tabling.{TwoCounts, countsAt, counted, onCounted, tabled, typesAfter, structsAfter, structsInto, typesInto, tablesInto, placedInto, onLimited, cellsAfter, tablesAfter, fronted, frontInto}
+use Rattle.image.specs.Tabling.{TwoCounts, countsAt, counted, onCounted, tabled, typesAfter, structsAfter, structsInto, typesInto, tablesInto, placedInto, onLimited, formatted, onFormatted, cellsAfter, tablesAfter, fronted, frontInto}
 use Rattle.image.specs.Image.{readFormat}
 use Rattle.image.specs.Answers.{refusal, limited}
+use Rattle.image.specs.declared.Format.{Format}
+use Rattle.image.specs.declared.Formatted.{Formatted}
+use Rattle.image.specs.declared.Formatted.the-variants as format
 use Rattle.image.specs.declared.Limited.{Limited}
 use Rattle.image.specs.declared.Limited.the-variants as lim
 use Rattle.image.specs.declared.Opening.{Opening}
@@ -88,39 +91,41 @@ tables-value image at ss ts {l} {ss′} {ts′} {S} {T} {next} e p = go (rw (←
 
 -- the same of all that stands before the expression
 data OpeningWithin : Opening → Type 0 where
-  opened : {S T C next : ℕ} → S ≤ 32 → T ≤ 255 → OpeningWithin (front.Read S T C next)
+  opened : {m : Format} {S T C next : ℕ} → S ≤ 32 → T ≤ 255 → OpeningWithin (front.Read m S T C next)
   unopened : {q : Refusal} → OpeningWithin (front.Refused q)
 
-cells-within : (S T : ℕ) → S ≤ 32 → T ≤ 255 → (ss ts : List ℕ) (r : Limited) (cs : List ℕ) → OpeningWithin (cellsAfter S T ss ts (filled r cs) .result)
-cells-within S T s t ss ts (lim.Value C next) cs = opened s t
-cells-within S T s t ss ts (lim.Refused q) cs = unopened
+cells-within : (m : Format) (S T : ℕ) → S ≤ 32 → T ≤ 255 → (ss ts : List ℕ) (r : Limited) (cs : List ℕ)
+    → OpeningWithin (cellsAfter m S T ss ts (filled r cs) .result)
+cells-within m S T s t ss ts (lim.Value C next) cs = opened s t
+cells-within m S T s t ss ts (lim.Refused q) cs = unopened
 
-after-tables : (words : ℕ) (image cs ss ts : List ℕ) (r : Counted) → Within r → OpeningWithin (tablesAfter words image cs (tabled r ss ts) .result)
-after-tables words image cs ss ts (both.Tables S T next) (within s t) =
-    let f = placedInto image words ts (T + 1) next cs in cells-within S T s t ss ts (f .result) (f .table)
-after-tables words image cs ss ts (both.Refused q) w = unopened
+after-tables : (words : ℕ) (image cs : List ℕ) (m : Format) (ss ts : List ℕ) (r : Counted) → Within r
+    → OpeningWithin (tablesAfter words image cs m (tabled r ss ts) .result)
+after-tables words image cs m ss ts (both.Tables S T next) (within s t) =
+    let f = placedInto image words ts (T + 1) next cs in cells-within m S T s t ss ts (f .result) (f .table)
+after-tables words image cs m ss ts (both.Refused q) w = unopened
 
 front-within : (words : ℕ) (image ss ts cs : List ℕ) → OpeningWithin (frontInto words image ss ts cs .result)
 unfolding frontInto
 front-within words image ss ts cs = length-judged (ltb 16384 (length image))
   where
-    behind-format : (r : Limited)
-        → OpeningWithin (onLimited r (λ q. fronted (front.Refused q) ss ts cs) (λ v next. tablesAfter words image cs (tablesInto image next ss ts)) .result)
-    behind-format (lim.Value v next) =
+    behind-format : (r : Formatted)
+        → OpeningWithin (onFormatted r (λ q. fronted (front.Refused q) ss ts cs) (λ m next. tablesAfter words image cs m (tablesInto image next ss ts)) .result)
+    behind-format (format.Read m next) =
         let f = tablesInto image next ss ts in
-        after-tables words image cs (f .structs) (f .types) (f .result) (tables-within image next ss ts)
-    behind-format (lim.Refused q) = unopened
+        after-tables words image cs m (f .structs) (f .types) (f .result) (tables-within image next ss ts)
+    behind-format (format.Refused q) = unopened
 
     length-judged : (b : Bool)
         → OpeningWithin
         (choose b (λ _. fronted (front.Refused (refusal fault.Limit 0)) ss ts cs) (λ _.
-        onLimited (limited (readFormat 0 image)) (λ q. fronted (front.Refused q) ss ts cs) (λ v next. tablesAfter words image cs (tablesInto image next ss ts))) .result)
+        onFormatted (formatted (readFormat image)) (λ q. fronted (front.Refused q) ss ts cs) (λ m next. tablesAfter words image cs m (tablesInto image next ss ts))) .result)
     length-judged true = unopened
-    length-judged false = behind-format (limited (readFormat 0 image))
+    length-judged false = behind-format (formatted (readFormat image))
 
-pub front-value : (words : ℕ) (image ss ts cs : List ℕ) {l : Opening} {ss′ ts′ cs′ : List ℕ} {S T C next : ℕ}
-    → fronted l ss′ ts′ cs′ ≡ frontInto words image ss ts cs → l ≡ front.Read S T C next → (S ≤ 32) × (T ≤ 255)
-front-value words image ss ts cs {l} {ss′} {ts′} {cs′} {S} {T} {C} {next} e p = go (rw (← e, p) at (front-within words image ss ts cs))
+pub front-value : (words : ℕ) (image ss ts cs : List ℕ) {l : Opening} {ss′ ts′ cs′ : List ℕ} {m : Format} {S T C next : ℕ}
+    → fronted l ss′ ts′ cs′ ≡ frontInto words image ss ts cs → l ≡ front.Read m S T C next → (S ≤ 32) × (T ≤ 255)
+front-value words image ss ts cs {l} {ss′} {ts′} {cs′} {m} {S} {T} {C} {next} e p = go (rw (← e, p) at (front-within words image ss ts cs))
   where
-    go : OpeningWithin (front.Read S T C next) → (S ≤ 32) × (T ≤ 255)
+    go : OpeningWithin (front.Read m S T C next) → (S ≤ 32) × (T ≤ 255)
     go (opened s t) = (s, t)

@@ -6,7 +6,6 @@ use Prim.Native.Nat.{ℕ, _+_, _-_, _<_, _≤_}
 use native.Mathlib.Omega.{arith}
 use lib.ListN.{length, take, drop, length-drop}
 use lib.Seq.{take-all}
-use borrow.Author.Tests.{lt-ltb, le-ltb}
 use Rattle.calculus.specs.declared.Fault.the-variants as fault
 use Rattle.calculus.specs.declared.Refusal.{Refusal}
 use Rattle.numbers.specs.Reading.{groups}
@@ -49,16 +48,10 @@ module _ (image types : List ℕ) (structs at : ℕ) (t : List ℕ) where
     place-within {q} p =
         omega (arith, refused-within (drop at image) types structs 64 0 0 0 t (omega arith) tail-read p, length-drop at image)
 
-    -- bytes follow the expression
-    pub bytes-behind : {next count : ℕ} → r ≡ Read next count → at + next < length image
-        → filled (Refused (refusal fault.Behind (at + next))) t′ ≡ expressionInto image types structs at t
+    -- an expression that was read in the part
+    pub read-behind : {next count : ℕ} → r ≡ Read next count → filled (Read (at + next) count) t′ ≡ expressionInto image types structs at t
     unfolding expressionInto
-    bytes-behind {next} q h = rw (← tail-read, q, lt-ltb (at + next) (length image) h)
-
-    pub none-behind : {next count : ℕ} → r ≡ Read next count → length image ≤ at + next
-        → filled (Read (at + next) count) t′ ≡ expressionInto image types structs at t
-    unfolding expressionInto
-    none-behind {next} q h = rw (← tail-read, q, le-ltb (at + next) (length image) h)
+    read-behind q = rw (← tail-read, q)
 
     -- a refusal inside the part
     pub refused-behind : {q : Refusal} → r ≡ Refused q

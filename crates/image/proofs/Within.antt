@@ -14,6 +14,9 @@ use Rattle.numbers.specs.Width.{bits32}
 use Rattle.numbers.specs.declared.Number.{Number}
 use Rattle.numbers.specs.declared.Number.the-variants as told
 use Rattle.numbers.proofs.Laws.{number-sound, number-ends, number-unfit}
+use Rattle.calculus.specs.Operations.{operationOf}
+use Rattle.calculus.specs.declared.Operation.{Operation}
+use Rattle.calculus.specs.declared.Operation.the-variants as op
 use Rattle.calculus.specs.declared.Fault.{Fault}
 use Rattle.calculus.specs.declared.Fault.the-variants as fault
 use Rattle.calculus.specs.declared.Refusal.{Refusal}
@@ -113,26 +116,25 @@ module _ (image types : List ℕ) (structs : ℕ) where
   unfolding kindCode
   kind-within at h = within-then (below fault.Unknown (length types) image at) _ (below-within image fault.Unknown (length types) at h) (λ n next l. within l)
 
-  line-within : (lets first code at : ℕ) → first ≤ length image → at ≤ length image → Within (length image) (lineOf image types structs lets first code at)
+  line-within : (lets first : ℕ) (o : Operation) (at : ℕ) → first ≤ length image → at ≤ length image
+      → Within (length image) (lineOf image types structs lets first o at)
   unfolding lineOf literal
-  line-within lets first code at f h =
-      within-test (eqb code 0) _ _
-      (within-then (number image at) _ (number-within image at h)
-      (λ n at₁ l. within-then (kindCode image types at₁) _ (kind-within at₁ l) (λ k at₂ m. within m)))
-      (within-test (eqb code 1) _ _
-      (within-then (below fault.Unknown lets image at) _ (below-within image fault.Unknown lets at h) (λ k at₁ l. within l))
-      (within-test (eqb code 2) _ _ (within h)
-      (within-test (eqb code 3) _ _
-      (within-then (mapped (pointerCode 0) (readTarget image structs (length types) at)) _
+  line-within lets first op.Literal at f h =
+      within-then (number image at) _ (number-within image at h)
+      (λ n at₁ l. within-then (kindCode image types at₁) _ (kind-within at₁ l) (λ k at₂ m. within m))
+  line-within lets first op.Variable at f h =
+      within-then (below fault.Unknown lets image at) _ (below-within image fault.Unknown lets at h) (λ k at₁ l. within l)
+  line-within lets first op.Let at f h = within h
+  line-within lets first op.Malloc at f h =
+      within-then (mapped (pointerCode 0) (readTarget image structs (length types) at)) _
       (within-mapped (pointerCode 0) (readTarget image structs (length types) at) (target-within image structs (length types) at h))
-      (λ k at₁ l. within l))
-      (within-test (eqb code 4) _ _ (within h)
-      (within-test (eqb code 5) _ _ (within-then (kindCode image types at) _ (kind-within at h) (λ k at₁ l. within l))
-      (within-test (eqb code 6) _ _ (within h)
-      (within-test (eqb code 7) _ _ (within h)
-      (within-test (eqb code 8) _ _ (within h)
-      (within-test (eqb code 9) _ _ (within-then (number image at) _ (number-within image at h) (λ k at₁ l. within l))
-      (within-refused f))))))))))
+      (λ k at₁ l. within l)
+  line-within lets first op.Unchecked at f h = within h
+  line-within lets first op.Cast at f h = within-then (kindCode image types at) _ (kind-within at h) (λ k at₁ l. within l)
+  line-within lets first op.Read at f h = within h
+  line-within lets first (op.Acts o) at f h = within h
+  line-within lets first op.Field at f h = within-then (number image at) _ (number-within image at h) (λ k at₁ l. within l)
+  line-within lets first op.Unknown at f h = within-refused f
 
   head-within : (lets i at : ℕ) (t : List ℕ) → at ≤ length image → HeadWithin (length image) (headInto image types structs lets i at t .result)
   unfolding headInto
@@ -141,7 +143,7 @@ module _ (image types : List ℕ) (structs : ℕ) where
       (λ code next l. choose-case
       (λ (f : Filled NodeHead). HeadWithin (length image) (f .result)) (leb 2048 i) _ _
       (head-refused h)
-      (row-within t i code (lineOf image types structs lets at code next) (line-within lets at code next h l)))
+      (row-within t i code (lineOf image types structs lets at (operationOf code) next) (line-within lets at (operationOf code) next h l)))
 
   pub node-within : (deep lets i at : ℕ) (t : List ℕ) → at ≤ length image
       → EndsWithin (length image) (nodeInto image types structs deep lets i at t .result)

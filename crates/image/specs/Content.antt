@@ -1,5 +1,6 @@
--- What an image holds: tables, cells and the expression; and the setting and the heap that they make.
+-- What an image holds: its format, tables, cells and the expression; and the setting and the heap that they make.
 use Prim.Native.Nat.{ℕ}
+use mathlib.Core.Bool.{false}
 use mathlib.Core.List.{List, [], _∷_}
 use lib.ListN.{replicate}
 use Rattle.cells.specs.Heap.{Heap, update}
@@ -8,6 +9,11 @@ use Rattle.cells.specs.declared.Cell.{Cell}
 use Rattle.cells.specs.declared.HeapWord.the-variants.{Undefined}
 use Rattle.calculus.specs.Setting.{Setting}
 use Rattle.calculus.specs.Expr.{Expr}
+use Rattle.image.specs.declared.Format.{Format}
+
+-- what the first number 1 says: numbers of 32 bits, cells without marks, one expression
+abbrev pub formatOne : Format
+formatOne = record { width = 32; marked = false; expressions = 1 }
 
 -- the fields of each struct, by word type number, and the word types, type 0 being int
 pub record Tables : Type 0 where
@@ -20,13 +26,15 @@ pub record Placed : Type 0 where
   pub held : Cell
 
 pub record Content : Type 0 where
+  pub format : Format
   pub tables : Tables
   pub cells : List Placed
   pub expr : Expr
 
--- the setting of the first format over a heap of W words
-abbrev pub settingOf : (words : ℕ) → Tables → Setting
-settingOf words t = record { structs = t .structs; types = t .types; width = 32; low = 1; high = words }
+-- the setting of a content over a heap of W words: the width is the format's, and malloc takes words "within 1 to W"
+abbrev pub settingOf : (words : ℕ) → Content → Setting
+settingOf words c =
+    record { structs = c .tables .structs; types = c .tables .types; width = c .format .width; low = 1; high = words }
 
 -- each cell in its place
 unfoldable pub placed : List Placed → Heap → Heap

@@ -3,10 +3,13 @@
 -- only the count is told.
 use Prim.Native.Nat.{ℕ, zero, suc, _+_, _*_}
 use mathlib.Core.List.{List, [], _∷_}
-use lib.Dec.{eqb, leb, ltb}
+use lib.Dec.{leb}
 use lib.ListN.{length, getD, set, drop}
 use Rattle.choice.specs.Choice.{choose}
 use Rattle.calculus.specs.Expr.{Expr, nodes}
+use Rattle.calculus.specs.Operations.{operationOf}
+use Rattle.calculus.specs.declared.Operation.{Operation}
+use Rattle.calculus.specs.declared.Operation.the-variants as op
 use Rattle.calculus.specs.declared.Fault.the-variants as fault
 use Rattle.image.specs.Reading.{Reading, got, refused, thenRead, number, below}
 use Rattle.image.specs.Tables.{readTarget}
@@ -93,22 +96,19 @@ module _ (image types : List ℕ) where
   literal at = thenRead (number image at) (λ n at₁. thenRead (kindCode at₁) (λ k at₂. got (line n k parts.Leaf) at₂))
 
 module _ (image types : List ℕ) (structs : ℕ) where
-  -- what stands behind a node's code and before its parts
-  unfoldable pub lineOf : (lets first code at : ℕ) → Reading Line
-  lineOf lets first code at =
-      choose (eqb code 0) (λ _. literal image types at) λ _.
-      choose (eqb code 1) (λ _. thenRead (below fault.Unknown lets image at) (λ k at₁. got (line k 0 parts.Leaf) at₁)) λ _.
-      choose (eqb code 2) (λ _. got (line 0 0 (parts.Two 1)) at) λ _.
-      choose (eqb code 3)
-      (λ _. thenRead (mapped (pointerCode 0) (readTarget image structs (length types) at))
-      (λ k at₁. got (line 0 k parts.Leaf) at₁)) λ _.
-      choose (eqb code 4) (λ _. got (line 0 0 parts.One) at) λ _.
-      choose (eqb code 5) (λ _. thenRead (kindCode image types at) (λ k at₁. got (line 0 k parts.One) at₁)) λ _.
-      choose (eqb code 6) (λ _. got (line 0 0 parts.One) at) λ _.
-      choose (eqb code 7) (λ _. got (line 0 0 (parts.Two 0)) at) λ _.
-      choose (eqb code 8) (λ _. got (line 0 0 (parts.Two 0)) at) λ _.
-      choose (eqb code 9) (λ _. thenRead (number image at) (λ f at₁. got (line f 0 parts.One) at₁)) λ _.
-      refused fault.Unknown first
+  -- what stands behind a node's code and before its parts, by the operation that the code is
+  unfoldable pub lineOf : (lets first : ℕ) → Operation → (at : ℕ) → Reading Line
+  lineOf lets first op.Literal at = literal image types at
+  lineOf lets first op.Variable at = thenRead (below fault.Unknown lets image at) (λ k at₁. got (line k 0 parts.Leaf) at₁)
+  lineOf lets first op.Let at = got (line 0 0 (parts.Two 1)) at
+  lineOf lets first op.Malloc at =
+      thenRead (mapped (pointerCode 0) (readTarget image structs (length types) at)) (λ k at₁. got (line 0 k parts.Leaf) at₁)
+  lineOf lets first op.Unchecked at = got (line 0 0 parts.One) at
+  lineOf lets first op.Cast at = thenRead (kindCode image types at) (λ k at₁. got (line 0 k parts.One) at₁)
+  lineOf lets first op.Read at = got (line 0 0 parts.One) at
+  lineOf lets first (op.Acts o) at = got (line 0 0 (parts.Two 0)) at
+  lineOf lets first op.Field at = thenRead (number image at) (λ f at₁. got (line f 0 parts.One) at₁)
+  lineOf lets first op.Unknown at = refused fault.Unknown first
 
   -- a node without its parts, into row i
   unfoldable pub headInto : (lets i at : ℕ) → List ℕ → Filled NodeHead
@@ -117,22 +117,19 @@ module _ (image types : List ℕ) (structs : ℕ) where
       (λ code next.
       choose (leb 2048 i)
       (λ _. filled (head.Refused (refusal fault.Limit at)) t)
-      (λ _. lineInto t i code (lineOf lets at code next)))
+      (λ _. lineInto t i code (lineOf lets at (operationOf code) next)))
 
   -- a node with its parts, at most `deep` deep, into the rows from i on
   unfoldable pub nodeInto : (deep lets i at : ℕ) → List ℕ → Filled Expression
   nodeInto zero lets i at t = filled (cut at (number image at)) t
   nodeInto (suc deep) lets i at t = thenFill (headInto lets i at t) (partsInto (nodeInto deep) lets i)
 
--- what was read from `at` on, with places carried back to whole-image offsets; bytes behind it are fault 8
-abbrev pub ended : (image : List ℕ) (at : ℕ) → Expression → Expression
-ended image at (expression.Read next count) =
-    choose (ltb (at + next) (length image))
-    (λ _. expression.Refused (refusal fault.Behind (at + next)))
-    (λ _. expression.Read (at + next) count)
-ended image at (expression.Refused r) = expression.Refused (refusal (r .fault) (at + r .place))
+-- what was read from `at` on, with places carried back to whole-image offsets
+abbrev pub carriedBack : (at : ℕ) → Expression → Expression
+carriedBack at (expression.Read next count) = expression.Read (at + next) count
+carriedBack at (expression.Refused r) = expression.Refused (refusal (r .fault) (at + r .place))
 
 -- the whole expression, which starts at `at`
 unfoldable pub expressionInto : (image types : List ℕ) (structs at : ℕ) → List ℕ → Filled Expression
 expressionInto image types structs at t =
-    thenFill (nodeInto (drop at image) types structs 64 0 0 0 t) (λ r t′. filled (ended image at r) t′)
+    thenFill (nodeInto (drop at image) types structs 64 0 0 0 t) (λ r t′. filled (carriedBack at r) t′)

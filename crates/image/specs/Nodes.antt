@@ -1,12 +1,15 @@
 -- The expression: nodes "written before their parts". "At most 2,048 nodes; an expression nests at most 64 deep, the root being depth 1."
 use Prim.Native.Nat.{ℕ, zero, suc, _+_}
 use mathlib.Core.List.{List}
-use lib.Dec.{eqb, leb}
+use lib.Dec.{leb}
 use lib.ListN.{length, getD}
 use Rattle.choice.specs.Choice.{choose}
 use Rattle.cells.specs.declared.Kind.{Kind}
 use Rattle.cells.specs.declared.Kind.the-variants.{Int}
-use Rattle.calculus.specs.Expr.{Expr, lit, var, malloc, bind, one, two, nodes, One, unchecked, cast, read, field, Two, assign, sum}
+use Rattle.calculus.specs.Expr.{Expr, lit, var, malloc, bind, one, two, nodes, One, unchecked, cast, read, field, Two, act}
+use Rattle.calculus.specs.Operations.{operationOf}
+use Rattle.calculus.specs.declared.Operation.{Operation}
+use Rattle.calculus.specs.declared.Operation.the-variants as op
 use Rattle.calculus.specs.declared.Fault.the-variants as fault
 use Rattle.image.specs.Content.{Tables}
 use Rattle.image.specs.Reading.{Reading, got, refused, thenRead, number, below}
@@ -25,28 +28,27 @@ module _ (image : List ℕ) (tables : Tables) where
   readKind at =
       thenRead (below fault.Unknown (length (tables .types)) image at) (λ n next. got (getD (tables .types) n Int) next)
 
-  -- what stands behind a node's code and before its parts; the code itself is at `first`, and the node is inside `lets` lets
-  unfoldable pub headOf : (lets first code at : ℕ) → Reading Head
-  headOf lets first code at =
-      choose (eqb code 0)
-      (λ _. thenRead (number image at) (λ n at₁. thenRead (readKind at₁) (λ κ at₂. got (leaf (lit n κ)) at₂))) λ _.
-      choose (eqb code 1) (λ _. thenRead (below fault.Unknown lets image at) (λ k at₁. got (leaf (var k)) at₁)) λ _.
-      choose (eqb code 2) (λ _. got binding at) λ _.
-      choose (eqb code 3)
-      (λ _. thenRead (readTarget image (length (tables .structs)) (length (tables .types)) at) (λ ω at₁. got (leaf (malloc ω)) at₁)) λ _.
-      choose (eqb code 4) (λ _. got (part unchecked) at) λ _.
-      choose (eqb code 5) (λ _. thenRead (readKind at) (λ κ at₁. got (part (cast κ)) at₁)) λ _.
-      choose (eqb code 6) (λ _. got (part read) at) λ _.
-      choose (eqb code 7) (λ _. got (parts assign) at) λ _.
-      choose (eqb code 8) (λ _. got (parts sum) at) λ _.
-      choose (eqb code 9) (λ _. thenRead (number image at) (λ f at₁. got (part (field f)) at₁)) λ _.
-      refused fault.Unknown first
+  -- what stands behind a node's code and before its parts, by the operation that the code is; the code itself is at `first`, and the node
+  -- is inside `lets` lets
+  unfoldable pub headOf : (lets first : ℕ) → Operation → (at : ℕ) → Reading Head
+  headOf lets first op.Literal at =
+      thenRead (number image at) (λ n at₁. thenRead (readKind at₁) (λ κ at₂. got (leaf (lit n κ)) at₂))
+  headOf lets first op.Variable at = thenRead (below fault.Unknown lets image at) (λ k at₁. got (leaf (var k)) at₁)
+  headOf lets first op.Let at = got binding at
+  headOf lets first op.Malloc at =
+      thenRead (readTarget image (length (tables .structs)) (length (tables .types)) at) (λ ω at₁. got (leaf (malloc ω)) at₁)
+  headOf lets first op.Unchecked at = got (part unchecked) at
+  headOf lets first op.Cast at = thenRead (readKind at) (λ κ at₁. got (part (cast κ)) at₁)
+  headOf lets first op.Read at = got (part read) at
+  headOf lets first (op.Acts o) at = got (parts (act o)) at
+  headOf lets first op.Field at = thenRead (number image at) (λ f at₁. got (part (field f)) at₁)
+  headOf lets first op.Unknown at = refused fault.Unknown first
 
   -- a node without its parts, where `before` nodes were read; one node too many is fault 4, at its code
   unfoldable pub readHead : (lets before at : ℕ) → Reading Head
   readHead lets before at =
       thenRead (number image at)
-      (λ code next. choose (leb 2048 before) (λ _. refused fault.Limit at) (λ _. headOf lets at code next))
+      (λ code next. choose (leb 2048 before) (λ _. refused fault.Limit at) (λ _. headOf lets at (operationOf code) next))
 
   -- the parts of a node, each read by `part′`, which is told the lets around it, the nodes read before it and where it starts. "A let's
   -- bound part is not inside that let."

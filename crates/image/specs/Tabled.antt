@@ -8,7 +8,10 @@ use lib.ListN.{length, getD}
 use Rattle.cells.specs.Code.{packed}
 use Rattle.cells.specs.declared.Mode.the-variants.{Checked}
 use Rattle.cells.specs.declared.Kind.{Kind}
-use Rattle.calculus.specs.Expr.{Expr, lit, var, malloc, bind, one, two, nodes, One, unchecked, cast, read, field, Two, assign, sum, Target, pointer}
+use Rattle.calculus.specs.Expr.{Expr, lit, var, malloc, bind, one, two, nodes, One, unchecked, cast, read, field, Two, act, Target, pointer}
+use Rattle.calculus.specs.Operations.{operationOf}
+use Rattle.calculus.specs.declared.Operation.{Operation}
+use Rattle.calculus.specs.declared.Operation.the-variants as op
 use Rattle.image.specs.Content.{Placed, Content}
 
 -- structs: no more numbers than the structs take
@@ -23,11 +26,11 @@ cellRows [] = []
 cellRows (p ∷ ps) = p .address ∷ p .held .value ∷ packed (p .held .kind) ∷ cellRows ps
 
 -- what a node's row says of its operation
-abbrev pub oneCode : One → ℕ
-oneCode unchecked = 4
-oneCode (cast κ) = 5
-oneCode read = 6
-oneCode (field f) = 9
+abbrev pub oneOperation : One → Operation
+oneOperation unchecked = op.Unchecked
+oneOperation (cast κ) = op.Cast
+oneOperation read = op.Read
+oneOperation (field f) = op.Field
 
 abbrev pub oneArgument : One → ℕ
 oneArgument unchecked = 0
@@ -41,25 +44,24 @@ oneKind (cast κ) = packed κ
 oneKind read = 0
 oneKind (field f) = 0
 
-abbrev pub twoCode : Two → ℕ
-twoCode assign = 7
-twoCode sum = 8
+abbrev pub twoOperation : Two → Operation
+twoOperation (act o) = op.Acts o
 
 -- row i of the node table
-pub record Row (t : List ℕ) (i code argument kind second : ℕ) : Type 0 where
-  pub code-is : getD t (4 * i) 0 ≡ code
+pub record Row (t : List ℕ) (i : ℕ) (operation : Operation) (argument kind second : ℕ) : Type 0 where
+  pub operation-is : operationOf (getD t (4 * i) 0) ≡ operation
   pub argument-is : getD t (4 * i + 1) 0 ≡ argument
   pub kind-is : getD t (4 * i + 2) 0 ≡ kind
   pub second-is : getD t (4 * i + 3) 0 ≡ second
 
 -- the node table holds the expression from node i on
 pub data Spans (t : List ℕ) : ℕ → Expr → Type 0 where
-  s-lit : {i n : ℕ} {κ : Kind} → Row t i 0 n (packed κ) 0 → Spans t i (lit n κ)
-  s-var : {i k : ℕ} → Row t i 1 k 0 0 → Spans t i (var k)
-  s-malloc : {i : ℕ} {ω : Target} → Row t i 3 0 (packed (pointer Checked ω)) 0 → Spans t i (malloc ω)
-  s-bind : {i : ℕ} {a b : Expr} → Row t i 2 0 0 (suc i + nodes a) → Spans t (suc i) a → Spans t (suc i + nodes a) b → Spans t i (bind a b)
-  s-one : {i : ℕ} {o : One} {e : Expr} → Row t i (oneCode o) (oneArgument o) (oneKind o) 0 → Spans t (suc i) e → Spans t i (one o e)
-  s-two : {i : ℕ} {o : Two} {a b : Expr} → Row t i (twoCode o) 0 0 (suc i + nodes a) → Spans t (suc i) a → Spans t (suc i + nodes a) b
+  s-lit : {i n : ℕ} {κ : Kind} → Row t i op.Literal n (packed κ) 0 → Spans t i (lit n κ)
+  s-var : {i k : ℕ} → Row t i op.Variable k 0 0 → Spans t i (var k)
+  s-malloc : {i : ℕ} {ω : Target} → Row t i op.Malloc 0 (packed (pointer Checked ω)) 0 → Spans t i (malloc ω)
+  s-bind : {i : ℕ} {a b : Expr} → Row t i op.Let 0 0 (suc i + nodes a) → Spans t (suc i) a → Spans t (suc i + nodes a) b → Spans t i (bind a b)
+  s-one : {i : ℕ} {o : One} {e : Expr} → Row t i (oneOperation o) (oneArgument o) (oneKind o) 0 → Spans t (suc i) e → Spans t i (one o e)
+  s-two : {i : ℕ} {o : Two} {a b : Expr} → Row t i (twoOperation o) 0 0 (suc i + nodes a) → Spans t (suc i) a → Spans t (suc i + nodes a) b
       → Spans t i (two o a b)
 
 -- the tables hold the content

@@ -16,6 +16,9 @@ use Rattle.image.specs.Answers.{refusal, limited, mapped}
 use Rattle.image.specs.Filled.{Filled, filled, stored}
 use Rattle.calculus.specs.declared.Refusal.{Refusal}
 use Rattle.image.specs.Image.{readFormat}
+use Rattle.image.specs.declared.Format.{Format}
+use Rattle.image.specs.declared.Formatted.{Formatted}
+use Rattle.image.specs.declared.Formatted.the-variants as format
 use Rattle.image.specs.declared.Limited.{Limited}
 use Rattle.image.specs.declared.Limited.the-variants as lim
 use Rattle.image.specs.declared.Counted.{Counted}
@@ -188,20 +191,29 @@ pub record FrontFilled : Type 0 where
 abbrev pub fronted : Opening → List ℕ → List ℕ → List ℕ → FrontFilled
 fronted r ss ts cs = record { result = r; structs = ss; types = ts; cells = cs }
 
-abbrev pub cellsAfter : (S T : ℕ) (ss ts : List ℕ) → Filled Limited → FrontFilled
-cellsAfter S T ss ts f =
-    onLimited (f .result) (λ q. fronted (front.Refused q) ss ts (f .table)) (λ C end. fronted (front.Read S T C end) ss ts (f .table))
+abbrev pub cellsAfter : (m : Format) (S T : ℕ) (ss ts : List ℕ) → Filled Limited → FrontFilled
+cellsAfter m S T ss ts f =
+    onLimited (f .result) (λ q. fronted (front.Refused q) ss ts (f .table)) (λ C end. fronted (front.Read m S T C end) ss ts (f .table))
 
-abbrev pub tablesAfter : (words : ℕ) (image : List ℕ) (cells : List ℕ) → TablesFilled → FrontFilled
-tablesAfter words image cs f =
+abbrev pub tablesAfter : (words : ℕ) (image : List ℕ) (cells : List ℕ) (m : Format) → TablesFilled → FrontFilled
+tablesAfter words image cs m f =
     onCounted (f .result)
     (λ q. fronted (front.Refused q) (f .structs) (f .types) cs)
-    (λ S T next. cellsAfter S T (f .structs) (f .types) (placedInto image words (f .types) (T + 1) next cs))
+    (λ S T next. cellsAfter m S T (f .structs) (f .types) (placedInto image words (f .types) (T + 1) next cs))
+
+-- what is answered of the format, and how to go on by that
+abbrev pub formatted : Reading Format → Formatted
+formatted (got m next) = format.Read m next
+formatted (refused f p) = format.Refused (refusal f p)
+
+abbrev pub onFormatted : {A : Type 0} → Formatted → (Refusal → A) → (Format → ℕ → A) → A
+onFormatted (format.Read m next) stop go = go m next
+onFormatted (format.Refused q) stop go = stop q
 
 -- all that stands before the expression
 unfoldable pub frontInto : (words : ℕ) (image : List ℕ) (structs types cells : List ℕ) → FrontFilled
 frontInto words image ss ts cs =
     choose (ltb 16384 (length image)) (λ _. fronted (front.Refused (refusal fault.Limit 0)) ss ts cs) λ _.
-    onLimited (limited (readFormat 0 image))
+    onFormatted (formatted (readFormat image))
     (λ q. fronted (front.Refused q) ss ts cs)
-    (λ v next. tablesAfter words image cs (tablesInto image next ss ts))
+    (λ m next. tablesAfter words image cs m (tablesInto image next ss ts))

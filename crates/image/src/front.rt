@@ -1,9 +1,11 @@
 // All that stands before the expression, the image's length judged before anything is read.
 ghost use mathlib.Core.Path.{_≡_};
+ghost use Rattle.image.specs.Content.{formatOne};
 ghost use Rattle.image.specs.Image.{readFormat};
-ghost use Rattle.image.specs.Answers.{limited};
-ghost use Rattle.image.specs.Tabling.{fronted, frontInto};
+ghost use Rattle.image.specs.Tabling.{formatted, fronted, frontInto};
 use crate::Counted;
+use crate::Format;
+use crate::Formatted;
 use crate::Limited;
 use crate::Opening;
 use crate::heap_cells::read_placed;
@@ -29,7 +31,7 @@ pub fn read_front(
         });
     }
     match read_format(image) {
-        Limited::Value { value, next } => match read_tables(structs, types, image, next) {
+        Formatted::Read { format, next } => match read_tables(structs, types, image, next) {
             Counted::Tables {
                 structs: s,
                 types: t,
@@ -39,6 +41,7 @@ pub fn read_front(
                     value: c,
                     next: end,
                 } => Opening::Read {
+                    format,
                     structs: s,
                     types: t,
                     cells: c,
@@ -48,25 +51,39 @@ pub fn read_front(
             },
             Counted::Refused(refusal) => Opening::Refused(refusal),
         },
-        Limited::Refused(refusal) => Opening::Refused(refusal),
+        Formatted::Refused(refusal) => Opening::Refused(refusal),
     }
 }
 
-// The format, which is 1.
-fn read_format(image: &[u8]) -> Limited
-    ensures { λ r. ⌜ r ≡ limited (readFormat 0 (now (image .entry))) ⌝ }
+// The format, by the image's first number.
+fn read_format(image: &[u8]) -> Formatted
+    ensures { λ r. ⌜ r ≡ formatted (readFormat (now (image .entry))) ⌝ }
 {
     match read_limited(image, 0) {
         Limited::Value { value, next } => {
             if value == 1 {
-                Limited::Value { value, next }
+                Formatted::Read {
+                    format: format_one(),
+                    next,
+                }
             } else {
-                Limited::Refused(Refusal {
+                Formatted::Refused(Refusal {
                     fault: Fault::Format,
                     place: 0,
                 })
             }
         }
-        Limited::Refused(refusal) => Limited::Refused(refusal),
+        Limited::Refused(refusal) => Formatted::Refused(refusal),
+    }
+}
+
+// Format 1.
+fn format_one() -> Format
+    ensures { λ r. ⌜ r ≡ formatOne ⌝ }
+{
+    Format {
+        width: 32,
+        marked: false,
+        expressions: 1,
     }
 }

@@ -5,13 +5,15 @@ ghost use lib.ListN.{take};
 ghost use Rattle.image.specs.Filled.{filled};
 ghost use Rattle.image.specs.Filling.{expressionInto};
 ghost use Rattle.image.specs.Loaded.{lent, loadInto};
-use crate::Counts;
 use crate::Expression;
 use crate::Loading;
 use crate::Opening;
+use crate::Sizes;
 use crate::front::read_front;
 use crate::nodes::read_expression;
 use crate::number::lesser;
+use calculus::Fault;
+use calculus::Refusal;
 
 // The image over a heap of `words` words: the structs, the word types, the cells and the nodes that it holds, or its refusal.
 pub fn load(
@@ -26,6 +28,7 @@ pub fn load(
 {
     match read_front(structs, types, cells, image, words as u64) {
         Opening::Read {
+            format,
             structs: s,
             types: t,
             cells: c,
@@ -33,12 +36,21 @@ pub fn load(
         } => {
             let known = t as usize + 1;
             match read_tail(nodes, image, types, known, s, next) {
-                Expression::Read { next: end, count } => Loading::Loaded(Counts {
-                    structs: s as usize,
-                    types: known,
-                    cells: c as usize,
-                    nodes: count,
-                }),
+                Expression::Read { next: end, count } => {
+                    if end < image.len() {
+                        return Loading::Refused(Refusal {
+                            fault: Fault::Behind,
+                            place: end,
+                        });
+                    }
+                    Loading::Loaded(Sizes {
+                        format,
+                        structs: s as usize,
+                        types: known,
+                        cells: c as usize,
+                        nodes: count,
+                    })
+                }
                 Expression::Refused(refusal) => Loading::Refused(refusal),
             }
         }

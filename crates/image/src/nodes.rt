@@ -15,12 +15,13 @@ use crate::number::read_below;
 use crate::number::read_limited;
 use crate::target::read_target;
 use calculus::Fault;
+use calculus::Operation;
 use calculus::Refusal;
+use calculus::operation_of;
 use cells::put;
 use cells::word;
 
-// The expression that starts at `at`, with nothing behind it. It is read in the part of the image that starts there, and its places
-// are carried back.
+// The expression that starts at `at`. It is read in the part of the image that starts there, and its places are carried back.
 pub fn read_expression(
     table: &mut [u64],
     image: &[u8],
@@ -37,17 +38,10 @@ pub fn read_expression(
         });
     }
     match read_node(table, &image[at..], types, structs, 64, 0, 0, 0) {
-        Expression::Read { next, count } => {
-            let end = at + next;
-            if end < image.len() {
-                Expression::Refused(Refusal {
-                    fault: Fault::Behind,
-                    place: end,
-                })
-            } else {
-                Expression::Read { next: end, count }
-            }
-        }
+        Expression::Read { next, count } => Expression::Read {
+            next: at + next,
+            count,
+        },
         Expression::Refused(refusal) => {
             let fault = refusal.fault;
             Expression::Refused(Refusal {
@@ -132,7 +126,8 @@ fn read_head(
                     place: at,
                 });
             }
-            match read_row(image, types, structs, lets, at, value, next) {
+            let operation = operation_of(value);
+            match read_row(image, types, structs, lets, at, operation, next) {
                 NodeRow::Row {
                     argument,
                     kind,
@@ -161,34 +156,36 @@ fn write_row(table: &mut [u64], node: usize, code: u64, argument: u64, kind: u64
     }
 }
 
-// What stands at `at`, behind a node's code, which is at `first`.
+// What stands at `at`, behind the code of a node of this operation, which is at `first`.
 fn read_row(
     image: &[u8],
     types: &[u64],
     structs: u64,
     lets: u64,
     first: usize,
-    code: u64,
+    operation: Operation,
     at: usize,
 ) -> NodeRow
-    ensures { λ r. ⌜ r ≡ rowed (lineOf (now (image .entry)) (now (types .entry)) structs lets first code at) ⌝ }
+    ensures { λ r. ⌜ r ≡ rowed (lineOf (now (image .entry)) (now (types .entry)) structs lets first operation at) ⌝ }
 {
-    match code {
-        0 => read_literal(image, types, at),
-        1 => argument_row(read_below(image, at, lets, Fault::Unknown), Parts::Leaf),
-        2 => plain_row(Parts::Two { binds: 1 }, at),
-        3 => kind_row(
+    match operation {
+        Operation::Literal => read_literal(image, types, at),
+        Operation::Variable => argument_row(
+            read_below(image, at, lets, Fault::Unknown),
+            Parts::Leaf,
+        ),
+        Operation::Let => plain_row(Parts::Two { binds: 1 }, at),
+        Operation::Malloc => kind_row(
             0,
             read_target(image, at, structs, types.len() as u64, 0),
             Parts::Leaf,
         ),
-        4 => plain_row(Parts::One, at),
-        5 => kind_row(0, read_kind(image, types, at), Parts::One),
-        6 => plain_row(Parts::One, at),
-        7 => plain_row(Parts::Two { binds: 0 }, at),
-        8 => plain_row(Parts::Two { binds: 0 }, at),
-        9 => argument_row(read_limited(image, at), Parts::One),
-        _ => NodeRow::Refused(Refusal {
+        Operation::Unchecked => plain_row(Parts::One, at),
+        Operation::Cast => kind_row(0, read_kind(image, types, at), Parts::One),
+        Operation::Read => plain_row(Parts::One, at),
+        Operation::Acts(_) => plain_row(Parts::Two { binds: 0 }, at),
+        Operation::Field => argument_row(read_limited(image, at), Parts::One),
+        Operation::Unknown => NodeRow::Refused(Refusal {
             fault: Fault::Unknown,
             place: first,
         }),

@@ -9,7 +9,7 @@ use lib.ListN.{length, getD, set, length-set, List·getD-eq-default}
 use lib.Seq.{getD-set-same, getD-set-other}
 use borrow.Author.Tests.{lt-ltb, le-ltb}
 use Rattle.choice.specs.Choice.{choose-case}
-use Rattle.cells.specs.Lent.{numberAt, putWord}
+use Rattle.cells.specs.Lent.{lentNumber, putWord}
 use Rattle.machine.specs.Tables.{rowAt, framed, kept}
 
 -- ---- a row by the one test that finds it
@@ -194,8 +194,8 @@ module _ (t : List ℕ) (i value code : ℕ) where
 
 -- ---- bound values, in words
 pub record Word (t : List ℕ) (a value code : ℕ) : Type 0 where
-  pub value-is : numberAt t a 0 ≡ value
-  pub code-is : numberAt t a 1 ≡ code
+  pub value-is : lentNumber t a 0 ≡ value
+  pub code-is : lentNumber t a 1 ≡ code
 
 module _ (t : List ℕ) (i value code : ℕ) where
   put-whole : i < length t / 2 → putWord t (suc i) value code ≡ set (set t (2 * i) value) (2 * i + 1) code
@@ -203,8 +203,8 @@ module _ (t : List ℕ) (i value code : ℕ) where
   put-whole h = rw (lt-ltb i (length t / 2) h)
 
   number-put : (j k : ℕ) → i < length t / 2 → j < length t / 2
-      → numberAt (putWord t (suc i) value code) (suc j) k ≡ getD (set (set t (2 * i) value) (2 * i + 1) code) (2 * j + k) 0
-  unfolding numberAt
+      → lentNumber (putWord t (suc i) value code) (suc j) k ≡ getD (set (set t (2 * i) value) (2 * i + 1) code) (2 * j + k) 0
+  unfolding lentNumber
   number-put j k h l = rw (put-whole h, length-set, length-set, lt-ltb j (length t / 2) l)
 
   pub word-same : i < length t / 2 → Word (putWord t (suc i) value code) (suc i) value code
@@ -218,8 +218,8 @@ module _ (t : List ℕ) (i value code : ℕ) where
         code-is = number-put i 1 h h ∙ getD-set-same (set t (2 * i) value) (2 * i + 1) code 0 (simp length-set (omega arith));
       }
 
-  number-other : (j k : ℕ) → j < i → k < 2 → i < length t / 2 → numberAt (putWord t (suc i) value code) (suc j) k ≡ numberAt t (suc j) k
-  unfolding numberAt
+  number-other : (j k : ℕ) → j < i → k < 2 → i < length t / 2 → lentNumber (putWord t (suc i) value code) (suc j) k ≡ lentNumber t (suc j) k
+  unfolding lentNumber
   number-other j k l m h =
       number-put j k h (omega arith)
       ∙ getD-set-other (set t (2 * i) value) (2 * i + 1) (2 * j + k) code 0 (omega arith)

@@ -4,7 +4,7 @@ use Prim.Native.Nat.{ℕ, _+_, _-_, _/_}
 use lib.Dec.{eqb, leb}
 use lib.ListN.{length}
 use Rattle.choice.specs.Choice.{choose}
-use Rattle.cells.specs.Lent.{numberAt}
+use Rattle.cells.specs.Lent.{lentNumber}
 use Rattle.machine.specs.declared.State.{State}
 use Rattle.machine.specs.declared.Turn.{Turn}
 use Rattle.machine.specs.declared.Turn.the-variants.{Goes}
@@ -20,7 +20,7 @@ withinBlock code inside = choose (eqb code 4) (λ _. 1) (λ _. inside)
 unfoldable pub variableAt : List ℕ → State → (out : ℕ) → Turn
 variableAt bound s out =
     choose (leb (s .lets) out) (λ _. stuck s)
-    (λ _. Goes (focused s (numberAt bound (s .lets - out) 0) (numberAt bound (s .lets - out) 1)))
+    (λ _. Goes (focused s (lentNumber bound (s .lets - out) 0) (lentNumber bound (s .lets - out) 1)))
 
 -- the node waits in a frame for its first part, which is the next node
 unfoldable pub firstPart : List ℕ → State → (code : ℕ) → Made

@@ -13,24 +13,19 @@ read-limited-requires c κs = search needs
 enum-known-value : tie.Need-enum-known-value
 enum-known-value c = search needs
 
+format-one-requires : tie.Need-format-one-requires
+format-one-requires c κs = search needs
+
 enum-known-refusal : tie.Need-enum-known-refusal
 enum-known-refusal c = search needs
 
 returns : tie.Need-returns
 unfolding readFormat
-returns c =
-    rw (
-      was-got (number _ _) (c .before .before .before .before .read-limited .ensures) (c .before .before .value .given .1),
-      eq-eqb _ _ (c .if1 .taken),
-    )
+returns c = rw (was-got (number _ _) (c .before .before .before .before .before .read-limited .ensures) (c .before .before .before .value .given .1), eq-eqb _ _ (c .before .if1 .taken), c .format-one .ensures)
 
 returns-2 : tie.Need-returns-2
 unfolding readFormat
-returns-2 c =
-    rw (
-      was-got (number _ _) (c .before .before .before .before .read-limited .ensures) (c .before .before .value .given .1),
-      ne-eqb _ _ (c .if1 .left),
-    )
+returns-2 c = rw (was-got (number _ _) (c .before .before .before .before .read-limited .ensures) (c .before .before .value .given .1), ne-eqb _ _ (c .if1 .left))
 
 returns-3 : tie.Need-returns-3
 unfolding readFormat
@@ -42,6 +37,7 @@ read-format-spec =
     (tie.spec
     read-limited-requires
     enum-known-value
+    format-one-requires
     enum-known-refusal
     returns
     returns-2

@@ -4,7 +4,7 @@ use native.Mathlib.Omega.{arith}
 use borrow.Author.Tests.{lt-ltb, le-ltb}
 use Rattle.image.specs.Image.{readFormat}
 use Rattle.image.specs.Tabling.{frontInto}
-use Rattle.image.proofs.Answered.{was-got, was-refused}
+use Rattle.image.proofs.Answered.{was-format, was-no-format}
 use Rattle.image.proofs.TableLaws.{tables-value}
 use borrow.Author.Needs.{needs}
 use Rattle.image.proofs.front.read_front.Statement.{statement}
@@ -17,8 +17,8 @@ returns c = rw (lt-ltb _ _ (c .if1 .taken))
 read-format-requires : tie.Need-read-format-requires
 read-format-requires c κs = search needs
 
-enum-known-value : tie.Need-enum-known-value
-enum-known-value c = search needs
+enum-known-format : tie.Need-enum-known-format
+enum-known-format c = search needs
 
 read-tables-requires : tie.Need-read-tables-requires
 read-tables-requires c κs = search needs
@@ -27,8 +27,7 @@ enum-known-s : tie.Need-enum-known-s
 enum-known-s c = search needs
 
 add-read-placed : tie.Need-add-read-placed
-add-read-placed c =
-    omega (arith, tables-value _ _ _ _ (c .before .before .before .before .before .before .before .before .before .read-tables .ensures) (c .before .before .before .s .given .1))
+add-read-placed c = omega (arith, tables-value _ _ _ _ (c .before .before .before .before .before .before .before .before .before .read-tables .ensures) (c .before .before .before .s .given .1))
 
 read-placed-requires : tie.Need-read-placed-requires
 read-placed-requires c κs = search needs
@@ -59,7 +58,7 @@ unfolding frontInto
 returns-2 c =
     rw (
       le-ltb _ _ (c .before .before .before .before .before .before .before .before .before .before .before .before .before .before .before .before .before .before .before .before .before .before .if1 .left),
-      was-got (readFormat _ _) (c .before .before .before .before .before .before .before .before .before .before .before .before .before .before .before .before .before .before .before .before .before .read-format .ensures) (c .before .before .before .before .before .before .before .before .before .before .before .before .before .before .before .before .before .before .before .value .given .1),
+      was-format (readFormat _) (c .before .before .before .before .before .before .before .before .before .before .before .before .before .before .before .before .before .before .before .before .before .read-format .ensures) (c .before .before .before .before .before .before .before .before .before .before .before .before .before .before .before .before .before .before .before .format .given .1),
       ← c .before .before .before .before .before .before .before .before .before .before .before .before .before .before .before .read-tables .ensures,
       c .before .before .before .before .before .before .before .before .before .s .given .1,
       ← c .before .before .before .before .before .read-placed .ensures,
@@ -80,7 +79,7 @@ unfolding frontInto
 returns-3 c =
     rw (
       le-ltb _ _ (c .before .before .before .before .before .before .before .before .before .before .before .before .before .before .before .before .before .before .before .before .before .before .if1 .left),
-      was-got (readFormat _ _) (c .before .before .before .before .before .before .before .before .before .before .before .before .before .before .before .before .before .before .before .before .before .read-format .ensures) (c .before .before .before .before .before .before .before .before .before .before .before .before .before .before .before .before .before .before .before .value .given .1),
+      was-format (readFormat _) (c .before .before .before .before .before .before .before .before .before .before .before .before .before .before .before .before .before .before .before .before .before .read-format .ensures) (c .before .before .before .before .before .before .before .before .before .before .before .before .before .before .before .before .before .before .before .format .given .1),
       ← c .before .before .before .before .before .before .before .before .before .before .before .before .before .before .before .read-tables .ensures,
       c .before .before .before .before .before .before .before .before .before .s .given .1,
       ← c .before .before .before .before .before .read-placed .ensures,
@@ -98,18 +97,14 @@ unfolding frontInto
 returns-4 c =
     rw (
       le-ltb _ _ (c .before .before .before .before .before .before .before .before .before .before .before .before .before .before .if1 .left),
-      was-got (readFormat _ _) (c .before .before .before .before .before .before .before .before .before .before .before .before .before .read-format .ensures) (c .before .before .before .before .before .before .before .before .before .before .before .value .given .1),
+      was-format (readFormat _) (c .before .before .before .before .before .before .before .before .before .before .before .before .before .read-format .ensures) (c .before .before .before .before .before .before .before .before .before .before .before .format .given .1),
       ← c .before .before .before .before .before .before .before .read-tables .ensures,
       c .before .refusal2 .given .1,
     )
 
 returns-5 : tie.Need-returns-5
 unfolding frontInto
-returns-5 c =
-    rw (
-      le-ltb _ _ (c .before .before .before .before .if1 .left),
-      was-refused (readFormat _ _) (c .before .before .before .read-format .ensures) (c .before .refusal3 .given .1),
-    )
+returns-5 c = rw (le-ltb _ _ (c .before .before .before .before .if1 .left), was-no-format (readFormat _) (c .before .before .before .read-format .ensures) (c .before .refusal3 .given .1))
 
 pub read-front-spec : {M : Type 1} → statement M
 read-front-spec =
@@ -117,7 +112,7 @@ read-front-spec =
     (tie.spec
     returns
     read-format-requires
-    enum-known-value
+    enum-known-format
     read-tables-requires
     enum-known-s
     add-read-placed

@@ -19,6 +19,9 @@ returns : tie.Need-returns
 unfolding headInto
 returns c = rw (was-got (number _ _) (c .before .before .before .before .read-limited .ensures) (c .before .before .value .given .1), le-leb _ _ (c .if1 .taken))
 
+operation-of-requires : tie.Need-operation-of-requires
+operation-of-requires c κs = search needs
+
 read-row-requires : tie.Need-read-row-requires
 read-row-requires c κs = search needs
 
@@ -41,15 +44,22 @@ returns-2 : tie.Need-returns-2
 unfolding headInto
 returns-2 c =
     rw (
-      was-got (number _ _) (c .before .before .before .before .before .before .before .before .before .before .before .before .read-limited .ensures) (c .before .before .before .before .before .before .before .before .before .before .value .given .1),
-      lt-leb _ _ (c .before .before .before .before .before .before .before .before .if1 .left),
+      was-got (number _ _) (c .before .before .before .before .before .before .before .before .before .before .before .before .before .read-limited .ensures) (c .before .before .before .before .before .before .before .before .before .before .before .value .given .1),
+      lt-leb _ _ (c .before .before .before .before .before .before .before .before .before .if1 .left),
+      ← c .before .before .before .before .before .before .before .before .operation-of .ensures,
       was-line (lineOf _ _ _ _ _ _ _) (c .before .before .before .before .before .before .before .read-row .ensures) (c .before .before .before .before .before .argument .given .1),
       c .before .before .write-row .ensures,
     )
 
 returns-3 : tie.Need-returns-3
 unfolding headInto
-returns-3 c = rw (was-got (number _ _) (c .before .before .before .before .before .before .before .before .read-limited .ensures) (c .before .before .before .before .before .before .value .given .1), lt-leb _ _ (c .before .before .before .before .if1 .left), no-line (lineOf _ _ _ _ _ _ _) (c .before .before .before .read-row .ensures) (c .before .refusal .given .1))
+returns-3 c =
+    rw (
+      was-got (number _ _) (c .before .before .before .before .before .before .before .before .before .read-limited .ensures) (c .before .before .before .before .before .before .before .value .given .1),
+      lt-leb _ _ (c .before .before .before .before .before .if1 .left),
+      ← c .before .before .before .before .operation-of .ensures,
+      no-line (lineOf _ _ _ _ _ _ _) (c .before .before .before .read-row .ensures) (c .before .refusal .given .1),
+    )
 
 returns-4 : tie.Need-returns-4
 unfolding headInto
@@ -62,6 +72,7 @@ read-head-spec =
     read-limited-requires
     enum-known-value
     returns
+    operation-of-requires
     read-row-requires
     enum-known-argument
     write-row-requires
