@@ -13,7 +13,7 @@ use Rattle.calculus.specs.declared.Refusal.{Refusal}
 use Rattle.calculus.specs.declared.Outcome.{Outcome}
 use Rattle.calculus.proofs.Apart.{differ}
 use Rattle.image.specs.Content.{Content, settingOf, heapOf}
-use Rattle.image.specs.Reading.{Reading, got, refused}
+use Rattle.image.specs.Parsing.{Reading, got, refused}
 use Rattle.image.specs.Image.{readImage}
 use Rattle.image.specs.Tabled.{Held, cellRows}
 use Rattle.image.specs.Loaded as loaded

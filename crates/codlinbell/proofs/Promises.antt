@@ -26,7 +26,7 @@ use Rattle.calculus.proofs.Refused.{FirstFault, refused-first}
 use Rattle.calculus.proofs.Blame.{Sized}
 use Rattle.calculus.proofs.Blameless.{GoodEnd, blameless}
 use Rattle.image.specs.Content.{Content, settingOf, heapOf}
-use Rattle.image.specs.Reading as reading
+use Rattle.image.specs.Parsing as reading
 use Rattle.image.specs.Image.{readImage}
 use Rattle.codlinbell.proofs.Heaps.{heap-length}
 use Rattle.codlinbell.specs.Answered.{Answered, answered, refusal, ran, readThen, judgedThen, contentVerdict, contentRun}

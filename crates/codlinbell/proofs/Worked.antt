@@ -25,7 +25,7 @@ use Rattle.calculus.specs.Judge.{judge}
 use Rattle.calculus.specs.Steps.{step, sumRedex, wordThen, fieldRedex, zeroed, mallocRedex, replace}
 use Rattle.calculus.specs.Run.{run}
 use Rattle.image.specs.Content.{placed}
-use Rattle.image.specs.Reading.{number, below, several}
+use Rattle.image.specs.Parsing.{number, below, several}
 use Rattle.image.specs.Tables.{readStruct, readTarget, readEntry, isAmong, readTypes}
 use Rattle.image.specs.Cells.{readAddress, readCell, readCells}
 use Rattle.image.specs.Nodes.{headOf, readHead, readParts, readNode}

@@ -10,7 +10,7 @@ use Rattle.calculus.specs.Judge.{Verdict, good, bad, judged}
 use Rattle.calculus.specs.Run.{Result, run}
 use Rattle.calculus.specs.declared.Fault.{Fault}
 use Rattle.image.specs.Content.{Content, settingOf, heapOf}
-use Rattle.image.specs.Reading as reading
+use Rattle.image.specs.Parsing as reading
 use Rattle.image.specs.Image.{readImage}
 use Rattle.answers.specs.declared.Answer.{Answer}
 use Rattle.answers.specs.declared.Answer.the-variants.{Refused, Ran}

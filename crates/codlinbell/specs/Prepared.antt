@@ -5,7 +5,7 @@ use mathlib.Core.List.{List}
 use lib.ListN.{length}
 use Rattle.cells.specs.Lent.{heapWords}
 use Rattle.image.specs.Content.{Content}
-use Rattle.image.specs.Reading.{got}
+use Rattle.image.specs.Parsing.{got}
 use Rattle.image.specs.Image.{readImage}
 use Rattle.image.specs.Tabled.{Held}
 

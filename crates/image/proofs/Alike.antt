@@ -15,45 +15,45 @@ use Rattle.calculus.specs.declared.Operation.the-variants as op
 use Rattle.calculus.specs.declared.Fault.{Fault}
 use Rattle.calculus.specs.declared.Fault.the-variants as fault
 use Rattle.image.specs.Content.{Tables}
-use Rattle.image.specs.Reading.{Reading, got, refused, thenRead, number, below}
+use Rattle.image.specs.Parsing.{Parsed, got, refused, thenRead, number, below}
 use Rattle.image.specs.Tables.{readTarget}
 use Rattle.image.specs.Nodes.{Head, leaf, part, parts, binding, readKind, headOf}
 use Rattle.image.specs.Tabled.{oneOperation, oneArgument, oneKind, twoOperation}
 use Rattle.image.specs.Answers.{mapped, pointerCode}
-use Rattle.image.specs.Filling.{Line, line, kindCode, literal, lineOf}
+use Rattle.image.specs.Filling.{NodeLine, nodeLine, kindCode, literal, lineOf}
 use Rattle.image.specs.declared.Parts.the-variants as follow
 use Rattle.image.proofs.Gives.{Gives, gives, gives-more}
 use Rattle.image.proofs.Numbers.{below-gives}
 
 -- two readings that end at one offset with related things, or with one refusal
-pub data Alike {A B : Type 0} (R : A → B → Type 0) : Reading A → Reading B → Type 0 where
+pub data Alike {A B : Type 0} (R : A → B → Type 0) : Parsed A → Parsed B → Type 0 where
   alike : {a : A} {b : B} {next : ℕ} → R a b → Alike R (got a next) (got b next)
   alike-refused : {f : Fault} {p : ℕ} → Alike R (refused f p) (refused f p)
 
-pub alike-then : {A B C D : Type 0} {R : A → B → Type 0} {Q : C → D → Type 0} {r : Reading A} {s : Reading B}
-    (go : A → ℕ → Reading C) (go′ : B → ℕ → Reading D)
+pub alike-then : {A B C D : Type 0} {R : A → B → Type 0} {Q : C → D → Type 0} {r : Parsed A} {s : Parsed B}
+    (go : A → ℕ → Parsed C) (go′ : B → ℕ → Parsed D)
     → Alike R r s → ((a : A) (b : B) (next : ℕ) → R a b → Alike Q (go a next) (go′ b next)) → Alike Q (thenRead r go) (thenRead s go′)
 alike-then go go′ (alike {a} {b} {next} p) k = k a b next p
 alike-then go go′ alike-refused k = alike-refused
 
 -- one reading goes on in two ways
-alike-same : {A C D : Type 0} {Q : C → D → Type 0} (r : Reading A) (go : A → ℕ → Reading C) (go′ : A → ℕ → Reading D)
+alike-same : {A C D : Type 0} {Q : C → D → Type 0} (r : Parsed A) (go : A → ℕ → Parsed C) (go′ : A → ℕ → Parsed D)
     → ((a : A) (next : ℕ) → Alike Q (go a next) (go′ a next)) → Alike Q (thenRead r go) (thenRead r go′)
 alike-same (got a next) go go′ k = k a next
 alike-same (refused f p) go go′ k = alike-refused
 
-alike-mapped : {A B : Type 0} (f : A → B) (r : Reading A) → Alike (λ b a. b ≡ f a) (mapped f r) r
+alike-mapped : {A B : Type 0} (f : A → B) (r : Parsed A) → Alike (λ b a. b ≡ f a) (mapped f r) r
 alike-mapped f (got a next) = alike refl
 alike-mapped f (refused e p) = alike-refused
 
 -- a node's operation and line tell its head
-pub data Tells : Operation → Line → Head → Type 0 where
-  tells-lit : {n : ℕ} {κ : Kind} → Tells op.Literal (line n (packed κ) follow.Leaf) (leaf (lit n κ))
-  tells-var : {k : ℕ} → Tells op.Variable (line k 0 follow.Leaf) (leaf (var k))
-  tells-malloc : {ω : Target} → Tells op.Malloc (line 0 (packed (pointer Checked ω)) follow.Leaf) (leaf (malloc ω))
-  tells-part : (o : One) → Tells (oneOperation o) (line (oneArgument o) (oneKind o) follow.One) (part o)
-  tells-parts : (o : Two) → Tells (twoOperation o) (line 0 0 (follow.Two 0)) (parts o)
-  tells-binding : Tells op.Let (line 0 0 (follow.Two 1)) binding
+pub data Tells : Operation → NodeLine → Head → Type 0 where
+  tells-lit : {n : ℕ} {κ : Kind} → Tells op.Literal (nodeLine n (packed κ) follow.Leaf) (leaf (lit n κ))
+  tells-var : {k : ℕ} → Tells op.Variable (nodeLine k 0 follow.Leaf) (leaf (var k))
+  tells-malloc : {ω : Target} → Tells op.Malloc (nodeLine 0 (packed (pointer Checked ω)) follow.Leaf) (leaf (malloc ω))
+  tells-part : (o : One) → Tells (oneOperation o) (nodeLine (oneArgument o) (oneKind o) follow.One) (part o)
+  tells-parts : (o : Two) → Tells (twoOperation o) (nodeLine 0 0 (follow.Two 0)) (parts o)
+  tells-binding : Tells op.Let (nodeLine 0 0 (follow.Two 1)) binding
 
 code-at : (κs : List Kind) (n : ℕ) → n < length κs → getD (map packed κs) n 0 ≡ packed (getD κs n Int)
 code-at [] n l = absurd (omega arith)
@@ -68,7 +68,7 @@ module _ (image : List ℕ) (t : Tables) where
       (go (below fault.Unknown (length (t .types)) image at)
       (gives-more (λ n next s. s .limited-by) (below-gives fault.Unknown (length (t .types)) image at)))
     where
-      go : (r : Reading ℕ) → Gives (λ n next. n < length (t .types)) r
+      go : (r : Parsed ℕ) → Gives (λ n next. n < length (t .types)) r
           → Alike (λ k κ. k ≡ packed κ) (thenRead r (λ n next. got (getD (map packed (t .types)) n 0) next)) (thenRead r (λ n next. got (getD (t .types) n Int) next))
       go (got n next) (gives l) = alike (code-at (t .types) n l)
       go (refused f p) g = alike-refused

@@ -16,7 +16,7 @@ use Rattle.calculus.specs.declared.Fault.the-variants as fault
 use Rattle.image.specs.Content.{Placed}
 use Rattle.image.specs.Answers.{mapped}
 use Rattle.image.specs.Tabled.{cellRows}
-use Rattle.image.specs.Reading.{Reading, got, refused, thenRead, number, below}
+use Rattle.image.specs.Parsing.{Parsed, got, refused, thenRead, number, below}
 use Rattle.image.specs.Cells.{readAddress, readCell, readCells}
 use Rattle.image.specs.Tabling.{CellRow, readRow, cellSet, cellsInto}
 use Rattle.image.proofs.Gives.{Gives, gives, gives-none, gives-then, gives-test, gives-telling, given-by}
@@ -33,7 +33,7 @@ pub record Address (image : List ℕ) (words before at address next : ℕ) : Typ
   pub inside : address ≤ words
 
 -- a cell behind `before`, read at `at`
-pub record Row (image : List ℕ) (words known before at : ℕ) (c : CellRow) (next : ℕ) : Type 0 where
+pub record CellOf (image : List ℕ) (words known before at : ℕ) (c : CellRow) (next : ℕ) : Type 0 where
   pub behind : at + 3 ≤ next
   pub within : next ≤ length image
   pub rises : before < c .address
@@ -53,7 +53,7 @@ module _ (image : List ℕ) (words before at : ℕ) where
       positive : (gap : ℕ) → (gap ≡ 0 → ⊥) → before < before + gap
       positive gap h = omega arith
 
-  pub row-gives : (known : ℕ) → Gives (Row image words known before at) (readRow image words known before at)
+  pub row-gives : (known : ℕ) → Gives (CellOf image words known before at) (readRow image words known before at)
   unfolding readRow
   row-gives known =
       gives-then (readAddress image words before at) _ address-gives
@@ -66,7 +66,7 @@ abbrev placedOf : List Kind → CellRow → Placed
 placedOf types c = record { address = c .address; held = cell (c .value) (getD types (c .number) Int) }
 
 -- what is told in another way is told so behind each part
-mapped-then : {A B C : Type 0} (g : B → C) (r : Reading A) (go : A → ℕ → Reading B)
+mapped-then : {A B C : Type 0} (g : B → C) (r : Parsed A) (go : A → ℕ → Parsed B)
     → mapped g (thenRead r go) ≡ thenRead r (λ a next. mapped g (go a next))
 mapped-then g (got a next) go = refl
 mapped-then g (refused f p) go = refl
@@ -101,7 +101,7 @@ cells-give image words types (suc left) before at =
     (λ c next s. gives-then (readCells image words types left (c .address) next) _ (cells-give image words types left (c .address) next)
     (λ ps end t. gives (read c ps next end s t))))
   where
-    read : (c : CellRow) (ps : List Placed) (next end : ℕ) → Row image words (length types) before at c next
+    read : (c : CellRow) (ps : List Placed) (next end : ℕ) → CellOf image words (length types) before at c next
         → CellsRead image words types left (c .address) next ps end → CellsRead image words types (suc left) before at (placedOf types c ∷ ps) end
     read c ps next end s t =
         record {
@@ -115,16 +115,16 @@ cells-give image words types (suc left) before at =
 abbrev pub addressOf : List Placed → ℕ → ℕ
 addressOf ps i = getD ps i (record { address = 0; held = cell 0 Int }) .address
 
-pub lowest : {words : ℕ} {types : List Kind} {before : ℕ} {ps : List Placed} → Rising words types before ps → (i : ℕ) → i < length ps
+pub lowest-cell : {words : ℕ} {types : List Kind} {before : ℕ} {ps : List Placed} → Rising words types before ps → (i : ℕ) → i < length ps
     → (before < addressOf ps i) × (addressOf ps i ≤ words)
-lowest rising-none i h = absurd (omega arith)
-lowest (rising a b f k e r) zero h = (a, b)
-lowest (rising a b f k e r) (suc i) h = let (p, q) = lowest r i (omega arith) in (omega arith, q)
+lowest-cell rising-none i h = absurd (omega arith)
+lowest-cell (rising a b f k e r) zero h = (a, b)
+lowest-cell (rising a b f k e r) (suc i) h = let (p, q) = lowest-cell r i (omega arith) in (omega arith, q)
 
 pub rises-on : {words : ℕ} {types : List Kind} {before : ℕ} {ps : List Placed} → Rising words types before ps → (i j : ℕ) → i < j → j < length ps
     → addressOf ps i < addressOf ps j
 rises-on rising-none i j l h = absurd (omega arith)
-rises-on (rising a b f k e r) zero (suc j) l h = lowest r j (omega arith) .0
+rises-on (rising a b f k e r) zero (suc j) l h = lowest-cell r j (omega arith) .0
 rises-on (rising a b f k e r) (suc i) (suc j) l h = rises-on r i j (omega arith) (omega arith)
 rises-on (rising a b f k e r) i zero l h = absurd (omega arith)
 

@@ -5,7 +5,7 @@ use mathlib.Core.List.{List, [], _∷_}
 use Prim.Native.Nat.{ℕ, zero, suc, _+_, _<_, _≤_}
 use native.Mathlib.Omega.{arith}
 use lib.ListN.{length, getD}
-use Rattle.image.specs.Reading.{Reading, several}
+use Rattle.image.specs.Parsing.{Parsed, several}
 use Rattle.image.proofs.Gives.{Gives, gives, gives-then}
 
 pub data Each {A : Type 0} (Q : A → Type 0) : List A → Type 0 where
@@ -34,7 +34,7 @@ pub record Series {A : Type 0} (Q : A → Type 0) (k end at : ℕ) (xs : List A)
   pub onward : at + k ≤ next
   pub within : at ≤ end → next ≤ end
 
-pub series-gives : {A : Type 0} (Q : A → Type 0) (end : ℕ) (part : ℕ → Reading A) → ((at : ℕ) → Gives (Part Q end at) (part at))
+pub series-gives : {A : Type 0} (Q : A → Type 0) (end : ℕ) (part : ℕ → Parsed A) → ((at : ℕ) → Gives (Part Q end at) (part at))
     → (k at : ℕ) → Gives (Series Q k end at) (several part k at)
 unfolding several
 series-gives Q end part p zero at = gives {next = at} (record { each = each-none; long = refl; onward = omega arith; within = λ h. h })

@@ -14,7 +14,7 @@ use Rattle.cells.specs.declared.Kind.the-variants.{Int}
 use Rattle.calculus.specs.declared.Fault.{Fault}
 use Rattle.calculus.specs.declared.Fault.the-variants as fault
 use Rattle.image.specs.Content.{Tables, Placed}
-use Rattle.image.specs.Reading.{Reading, got, refused, below, several}
+use Rattle.image.specs.Parsing.{Parsed, got, refused, below, several}
 use Rattle.image.specs.Tables.{readStruct, readTypes}
 use Rattle.image.specs.Cells.{readCells}
 use Rattle.image.specs.Image.{readTables, readPlaced}
@@ -27,7 +27,7 @@ use Rattle.image.specs.declared.Limited.the-variants as lim
 use Rattle.image.proofs.Gives.{Gives, gives, gives-then, gives-more, given-by}
 use Rattle.image.proofs.Numbers.{Below, below-gives}
 use Rattle.image.proofs.Each.{Each, Series}
-use Rattle.image.proofs.KnownKinds.{known-small}
+use Rattle.image.proofs.KnownKinds.{entry-small}
 use Rattle.image.proofs.Fills.{Fills, fills-more, fills-result, fills-table}
 use Rattle.image.proofs.StructLaws.{FieldList, StructTable, structs-give, structs-held}
 use Rattle.image.proofs.TypeLaws.{TypeList, TypesRead, TypeTable, int-alone, types-give, types-fill}
@@ -49,7 +49,7 @@ pub record TablesRead (image : List ℕ) (at : ℕ) (t : Tables) (next : ℕ) : 
 
 -- the numbers of every kind in them fit the packed code
 pub kinds-small : {t : Tables} → TablesGood t → (n : ℕ) → n < length (t .types) → Small (getD (t .types) n Int)
-kinds-small {t} g n h = known-small (few (g .few-structs)) (fits (g .few-types) h) (g .types-known .known n h)
+kinds-small {t} g n h = entry-small (few (g .few-structs)) (fits (g .few-types) h) (g .types-known .known n h)
   where
     few : length (t .structs) ≤ 32 → length (t .structs) ≤ 256
     few l = omega arith
@@ -116,7 +116,7 @@ pub record TablesHeld (ss ts : List ℕ) (t : Tables) (S T : ℕ) (ss′ ts′ :
   pub structs-table : 17 * S ≤ length ss → StructTable S ss (t .structs) ss′
   pub types-table : TypeTable (T + 1) ts (t .types) ts′
 
-pub data TablesAre (ss ts : List ℕ) : Reading Tables → TablesFilled → Type 0 where
+pub data TablesAre (ss ts : List ℕ) : Parsed Tables → TablesFilled → Type 0 where
   tables-are : {t : Tables} {S T next : ℕ} {ss′ ts′ : List ℕ} → TablesHeld ss ts t S T ss′ ts′
       → TablesAre ss ts (got t next) (tabled (both.Tables S T next) ss′ ts′)
   tables-refused : {f : Fault} {p : ℕ} {ss′ ts′ : List ℕ} → TablesAre ss ts (refused f p) (tabled (both.Refused (refusal f p)) ss′ ts′)
@@ -151,7 +151,7 @@ module _ (image : List ℕ) (at : ℕ) (ss ts : List ℕ) (room : 256 ≤ length
     structs-filled : Fills (λ xs t′. 17 * S ≤ length ss → StructTable S ss xs t′) (several (readStruct image T) S at₂) (structsInto image (T + 1) S 0 at₂ ss)
     structs-filled = rw (add-one T) (structs-held image T S at₂ ss)
 
-    fourth : {xs : List (List ℕ)} {at₃ : ℕ} (e₃ : several (readStruct image T) S at₂ ≡ got xs at₃) (r : Reading (List Kind))
+    fourth : {xs : List (List ℕ)} {at₃ : ℕ} (e₃ : several (readStruct image T) S at₂ ≡ got xs at₃) (r : Parsed (List Kind))
         → readTypes image S T (Int ∷ []) at₃ ≡ r → TablesAre ss ts (readTables image at) (tablesInto image at ss ts)
     unfolding readTables tablesInto countsAt
     fourth {xs} {at₃} e₃ (got types at₄) e₄ =
@@ -171,19 +171,19 @@ module _ (image : List ℕ) (at : ℕ) (ss ts : List ℕ) (room : 256 ≤ length
         let tf = rw e₄ at (types-fill-all image S T at₃ ts (omega (arith, few)) (few .1) room) in
         rw (e₁, e₂, e₃, e₄, fills-result sf, fills-result tf) tables-refused
 
-    third : (r : Reading (List (List ℕ))) → several (readStruct image T) S at₂ ≡ r
+    third : (r : Parsed (List (List ℕ))) → several (readStruct image T) S at₂ ≡ r
         → TablesAre ss ts (readTables image at) (tablesInto image at ss ts)
     unfolding readTables tablesInto countsAt
     third (got xs at₃) e₃ = fourth e₃ (readTypes image S T (Int ∷ []) at₃) refl
     third (refused f p) e₃ = let sf = rw e₃ at structs-filled in rw (e₁, e₂, e₃, fills-result sf) tables-refused
 
-  second : {S at₁ : ℕ} (e₁ : below fault.Limit 33 image at ≡ got S at₁) (r : Reading ℕ) → below fault.Limit 256 image at₁ ≡ r
+  second : {S at₁ : ℕ} (e₁ : below fault.Limit 33 image at ≡ got S at₁) (r : Parsed ℕ) → below fault.Limit 256 image at₁ ≡ r
       → TablesAre ss ts (readTables image at) (tablesInto image at ss ts)
   unfolding readTables tablesInto countsAt
   second {S} {at₁} e₁ (got T at₂) e₂ = third e₁ e₂ (several (readStruct image T) S at₂) refl
   second e₁ (refused f p) e₂ = rw (e₁, e₂) tables-refused
 
-  first : (r : Reading ℕ) → below fault.Limit 33 image at ≡ r → TablesAre ss ts (readTables image at) (tablesInto image at ss ts)
+  first : (r : Parsed ℕ) → below fault.Limit 33 image at ≡ r → TablesAre ss ts (readTables image at) (tablesInto image at ss ts)
   unfolding readTables tablesInto countsAt
   first (got S at₁) e₁ = second e₁ (below fault.Limit 256 image at₁) refl
   first (refused f p) e₁ = rw e₁ tables-refused
@@ -207,7 +207,7 @@ pub tables-unopened : {ss ts : List ℕ} {f : Fault} {p : ℕ} {F : TablesFilled
 tables-unopened tables-refused = refl
 
 -- the cells as the code leaves them
-pub data PlacedAre (cs : List ℕ) : Reading (List Placed) → Filled Limited → Type 0 where
+pub data PlacedAre (cs : List ℕ) : Parsed (List Placed) → Filled Limited → Type 0 where
   placed-are : {ps : List Placed} {C next : ℕ} {cs′ : List ℕ} → C ≡ length ps → (3 * C ≤ length cs → CellTable C cs ps cs′)
       → PlacedAre cs (got ps next) (filled (lim.Value C next) cs′)
   placed-refused : {f : Fault} {p : ℕ} {cs′ : List ℕ} → PlacedAre cs (refused f p) (filled (lim.Refused (refusal f p)) cs′)
@@ -230,7 +230,7 @@ module _ (words : ℕ) (image : List ℕ) (t : Tables) (codes : List ℕ)
       (cellsInto image words codes (length (t .types)) C 0 0 next cs)
   cells-filled C next = cells-held image words (t .types) codes coded C next cs
 
-  behind-count : {C next : ℕ} (e₁ : below fault.Limit 4097 image at ≡ got C next) (r : Reading (List Placed))
+  behind-count : {C next : ℕ} (e₁ : below fault.Limit 4097 image at ≡ got C next) (r : Parsed (List Placed))
       → readCells image words (t .types) C 0 next ≡ r → PlacedAre cs (readPlaced words image t at) (placedInto image words codes (length (t .types)) at cs)
   unfolding readPlaced placedInto
   behind-count {C} {next} e₁ (got ps end) e₂ =
@@ -240,7 +240,7 @@ module _ (words : ℕ) (image : List ℕ) (t : Tables) (codes : List ℕ)
   behind-count {C} {next} e₁ (refused f p) e₂ =
       let cf = rw e₂ at (cells-filled C next) in rw (e₁, e₂, fills-result cf) placed-refused
 
-  count-read : (r : Reading ℕ) → below fault.Limit 4097 image at ≡ r
+  count-read : (r : Parsed ℕ) → below fault.Limit 4097 image at ≡ r
       → PlacedAre cs (readPlaced words image t at) (placedInto image words codes (length (t .types)) at cs)
   unfolding readPlaced placedInto
   count-read (got C next) e₁ = behind-count e₁ (readCells image words (t .types) C 0 next) refl

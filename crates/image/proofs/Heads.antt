@@ -14,11 +14,11 @@ use Rattle.calculus.specs.declared.Operation.{Operation}
 use Rattle.calculus.specs.declared.Operation.the-variants as op
 use Rattle.calculus.specs.declared.Fault.the-variants as fault
 use Rattle.calculus.specs.declared.Refusal.{Refusal}
-use Rattle.image.specs.Reading.{Reading, got, refused, thenRead, number, below}
+use Rattle.image.specs.Parsing.{Parsed, got, refused, thenRead, number, below}
 use Rattle.image.specs.Tables.{readTarget}
 use Rattle.image.specs.Answers.{mapped, pointerCode}
 use Rattle.image.specs.Filled.{Filled, filled}
-use Rattle.image.specs.Filling.{Line, kindCode, literal, lineOf, codeInto, lineInto, headInto}
+use Rattle.image.specs.Filling.{NodeLine, kindCode, literal, lineOf, codeInto, lineInto, headInto}
 use Rattle.image.specs.declared.Parts.{Parts}
 use Rattle.image.specs.declared.Parts.the-variants.{Leaf, One, Two}
 use Rattle.image.specs.declared.NodeHead.{NodeHead}
@@ -31,7 +31,7 @@ pub data Few : Parts → Type 0 where
   few-one : Few One
   few-two : {b : ℕ} → b ≤ 1 → Few (Two b)
 
-then-few : {A : Type 0} (r : Reading A) (go : A → ℕ → Reading Line)
+then-few : {A : Type 0} (r : Parsed A) (go : A → ℕ → Parsed NodeLine)
     → ((a : A) (next : ℕ) → Gives (λ l m. Few (l .parts)) (go a next)) → Gives (λ l m. Few (l .parts)) (thenRead r go)
 then-few (got a next) go k = k a next
 then-few (refused f p) go k = gives-none
@@ -57,7 +57,7 @@ data Told (i : ℕ) : Filled NodeHead → Type 0 where
   told-read : {p : Parts} {next : ℕ} {t : List ℕ} → i < 2048 → Few p → Told i (filled (Read p next) t)
   told-refused : {r : Refusal} {t : List ℕ} → Told i (filled (Refused r) t)
 
-line-told : (t : List ℕ) (i code : ℕ) (r : Reading Line) → i < 2048 → Gives (λ l next. Few (l .parts)) r → Told i (lineInto t i code r)
+line-told : (t : List ℕ) (i code : ℕ) (r : Parsed NodeLine) → i < 2048 → Gives (λ l next. Few (l .parts)) r → Told i (lineInto t i code r)
 line-told t i code (got l next) h (gives f) = told-read h f
 line-told t i code (refused f p) h g = told-refused
 
@@ -65,7 +65,7 @@ test-told : (i : ℕ) (t : Bool) (a b : Unit {0} → Filled NodeHead) → (t ≡
 test-told i true a b p q = p refl
 test-told i false a b p q = q refl
 
-code-told : (t : List ℕ) (i : ℕ) (r : Reading ℕ) (go : ℕ → ℕ → Filled NodeHead) → ((code next : ℕ) → Told i (go code next)) → Told i (codeInto t r go)
+code-told : (t : List ℕ) (i : ℕ) (r : Parsed ℕ) (go : ℕ → ℕ → Filled NodeHead) → ((code next : ℕ) → Told i (go code next)) → Told i (codeInto t r go)
 code-told t i (got code next) go k = k code next
 code-told t i (refused f p) go k = told-refused
 

@@ -14,26 +14,21 @@ use Rattle.cells.specs.declared.Mode.{Mode}
 use Rattle.cells.specs.declared.Kind.{Kind}
 use Rattle.cells.specs.declared.Kind.the-variants.{Int, Word, Struct, Array}
 use Rattle.cells.proofs.Codes.{packed-injective}
-use Rattle.calculus.specs.Expr.{Target, toWord, toStruct, toArray, pointer}
+use Rattle.calculus.specs.Expr.{Target, pointer}
+use Rattle.image.specs.Shape.{KnownTarget, to-word, to-struct, to-array}
 use Rattle.image.specs.Tables.{isAmong}
 use Rattle.image.specs.Tabling.{among}
 use Rattle.image.proofs.Each.{Each, each-more}
 use Rattle.calculus.proofs.Same.{sameKind-true, sameKind-false, neither}
 
 -- a kind over S structs and the word types below n
-pub data Known (S n : ℕ) : Kind → Type 0 where
-  known-int : Known S n Int
-  known-word : {m : Mode} {i : ℕ} → i < n → Known S n (Word m i)
-  known-struct : {m : Mode} {s : ℕ} → s < S → Known S n (Struct m s)
-  known-array : {m : Mode} {k i : ℕ} → k < 65536 → i < n → Known S n (Array m k i)
+pub data KnownEntry (S n : ℕ) : Kind → Type 0 where
+  known-int : KnownEntry S n Int
+  known-word : {m : Mode} {i : ℕ} → i < n → KnownEntry S n (Word m i)
+  known-struct : {m : Mode} {s : ℕ} → s < S → KnownEntry S n (Struct m s)
+  known-array : {m : Mode} {k i : ℕ} → k < 65536 → i < n → KnownEntry S n (Array m k i)
 
--- a target over them
-pub data KnownTarget (S n : ℕ) : Target → Type 0 where
-  to-word : {i : ℕ} → i < n → KnownTarget S n (toWord i)
-  to-struct : {s : ℕ} → s < S → KnownTarget S n (toStruct s)
-  to-array : {k i : ℕ} → k < 65536 → i < n → KnownTarget S n (toArray k i)
-
-pub known-pointer : {S n : ℕ} {ω : Target} (m : Mode) → KnownTarget S n ω → Known S n (pointer m ω)
+pub known-pointer : {S n : ℕ} {ω : Target} (m : Mode) → KnownTarget S n ω → KnownEntry S n (pointer m ω)
 known-pointer m (to-word h) = known-word h
 known-pointer m (to-struct h) = known-struct h
 known-pointer m (to-array l h) = known-array l h
@@ -41,17 +36,17 @@ known-pointer m (to-array l h) = known-array l h
 lower : {a b c : ℕ} → a < b → b ≤ c → a < c
 lower p q = omega arith
 
-pub known-more : {S n n′ : ℕ} {κ : Kind} → n ≤ n′ → Known S n κ → Known S n′ κ
+pub known-more : {S n n′ : ℕ} {κ : Kind} → n ≤ n′ → KnownEntry S n κ → KnownEntry S n′ κ
 known-more l known-int = known-int
 known-more l (known-word h) = known-word (lower h l)
 known-more l (known-struct h) = known-struct h
 known-more l (known-array k h) = known-array k (lower h l)
 
-pub known-small : {S n : ℕ} {κ : Kind} → S ≤ 256 → n ≤ 256 → Known S n κ → Small κ
-known-small s l known-int = small-int
-known-small s l (known-word h) = small-word (lower h l)
-known-small s l (known-struct h) = small-struct (lower h s)
-known-small s l (known-array k h) = small-array k (lower h l)
+pub entry-small : {S n : ℕ} {κ : Kind} → S ≤ 256 → n ≤ 256 → KnownEntry S n κ → Small κ
+entry-small s l known-int = small-int
+entry-small s l (known-word h) = small-word (lower h l)
+entry-small s l (known-struct h) = small-struct (lower h s)
+entry-small s l (known-array k h) = small-array k (lower h l)
 
 -- kinds whose numbers fit are the same exactly if their codes are
 pub code-test : {κ τ : Kind} → Small κ → Small τ → eqb (packed κ) (packed τ) ≡ sameKind κ τ

@@ -17,13 +17,13 @@ use Rattle.cells.specs.declared.Kind.the-variants.{Int}
 use Rattle.calculus.specs.Expr.{Expr, nodes}
 use Rattle.calculus.specs.declared.Fault.{Fault}
 use Rattle.image.specs.Content.{formatOne, Tables, Placed, Content}
-use Rattle.image.specs.Reading.{Reading, got, refused, number}
+use Rattle.image.specs.Parsing.{Parsed, got, refused, number}
 use Rattle.image.specs.Image.{readFormat, readTables, readPlaced, readExpr, readImage}
 use Rattle.image.specs.Tabled.{Spans, Held}
 use Rattle.image.specs.Answers.{refusal}
 use Rattle.image.specs.Tabling.{tablesInto, placedInto, frontInto}
-use Rattle.image.specs.Filling.{answered, expressionInto}
-use Rattle.image.specs.Loaded.{Lent, lent, loadInto, sizes, sizesOf, loading}
+use Rattle.image.specs.Filling.{expressionAnswer, expressionInto}
+use Rattle.image.specs.Loaded.{LoadedTables, loadedTables, loadInto, sizes, sizesOf, loading}
 use Rattle.image.specs.declared.Format.{Format}
 use Rattle.image.specs.declared.Sizes.{Sizes}
 use Rattle.image.specs.declared.Loading.the-variants.{Loaded, Refused}
@@ -32,7 +32,7 @@ use Rattle.image.proofs.Each.{Each}
 use Rattle.image.proofs.Numbers.{number-gives}
 use Rattle.image.specs.Shape.{height, Scoped, Known, SmallExpr}
 use Rattle.image.proofs.Shapes.{Whole, expr-good, known-small}
-use Rattle.image.proofs.Rows.{Kept, spans-kept}
+use Rattle.image.proofs.Rows.{RowsKept, spans-kept}
 use Rattle.image.proofs.Noded.{expression-result, expression-spans, expression-kept}
 use Rattle.image.proofs.StructLaws.{StructTable}
 use Rattle.image.proofs.TypeLaws.{TypeTable, code-at}
@@ -45,16 +45,16 @@ pub record ContentHeld (ss ts cs ns : List ℕ) (c : Content) (ss′ ts′ cs′
   pub types-table : TypeTable (length (c .tables .types)) ts (c .tables .types) ts′
   pub cells-table : 3 * length (c .cells) ≤ length cs → CellTable (length (c .cells)) cs (c .cells) cs′
   pub nodes-table : 4 * nodes (c .expr) ≤ length ns → Spans ns′ 0 (c .expr)
-  pub nodes-kept : Kept ns 0 (nodes (c .expr)) ns′
+  pub nodes-kept : RowsKept ns 0 (nodes (c .expr)) ns′
 
-pub data LoadAre (ss ts cs ns : List ℕ) : Reading Content → Lent → Type 0 where
+pub data LoadAre (ss ts cs ns : List ℕ) : Parsed Content → LoadedTables → Type 0 where
   load-are : {c : Content} {next : ℕ} {ss′ ts′ cs′ ns′ : List ℕ} → ContentHeld ss ts cs ns c ss′ ts′ cs′ ns′
-      → LoadAre ss ts cs ns (got c next) (lent (Loaded (sizesOf c)) ss′ ts′ cs′ ns′)
+      → LoadAre ss ts cs ns (got c next) (loadedTables (Loaded (sizesOf c)) ss′ ts′ cs′ ns′)
   load-refused : {f : Fault} {p : ℕ} {ss′ ts′ cs′ ns′ : List ℕ}
-      → LoadAre ss ts cs ns (refused f p) (lent (Refused (refusal f p)) ss′ ts′ cs′ ns′)
+      → LoadAre ss ts cs ns (refused f p) (loadedTables (Refused (refusal f p)) ss′ ts′ cs′ ns′)
 
 counted : {ss ts cs ns : List ℕ} {c : Content} {n : Sizes} {next : ℕ} {ss′ ts′ cs′ ns′ : List ℕ} → n ≡ sizesOf c
-    → ContentHeld ss ts cs ns c ss′ ts′ cs′ ns′ → LoadAre ss ts cs ns (got c next) (lent (Loaded n) ss′ ts′ cs′ ns′)
+    → ContentHeld ss ts cs ns c ss′ ts′ cs′ ns′ → LoadAre ss ts cs ns (got c next) (loadedTables (Loaded n) ss′ ts′ cs′ ns′)
 counted e h = rw e (load-are h)
 
 module _ (words : ℕ) (image ss ts cs ns : List ℕ) (room : 256 ≤ length ts) where
@@ -79,7 +79,7 @@ module _ (words : ℕ) (image ss ts cs ns : List ℕ) (room : 256 ≤ length ts)
       p : PlacedOpened cs ps at₃ (placedInto image words (tablesInto image at₁ ss ts .types) (o .T + 1) at₂ cs)
       p = placed-opened (rw e₃ at placed-all)
 
-      answer : expressionInto image codes (o .S) at₃ ns .result ≡ answered 0 (readExpr image t at₃)
+      answer : expressionInto image codes (o .S) at₃ ns .result ≡ expressionAnswer 0 (readExpr image t at₃)
       answer =
           expression-result image t codes (o .S) (o .held .types-table .codes) (o .held .structs-count) at₃ ns
 
@@ -101,21 +101,21 @@ module _ (words : ℕ) (image ss ts cs ns : List ℕ) (room : 256 ≤ length ts)
       counted-as : (e : Expr) → sizes m (o .S) (o .T + 1) (p .C) (0 + nodes e) ≡ sizesOf (record { format = m; tables = t; cells = ps; expr = e })
       counted-as e = rw (o .held .structs-count, o .held .types-count, p .count, zero-add)
 
-      expr-case : (r : Reading Expr) → readExpr image t at₃ ≡ r → Are
+      expr-case : (r : Parsed Expr) → readExpr image t at₃ ≡ r → Are
       unfolding readImage loadInto frontInto
       expr-case (got e at₄) e₄ =
           rw (short, e₁, e₂, e₃, o .answer, p .answer, answer, e₄)
           (choose-both (LoadAre ss ts cs ns) (ltb at₄ (length image)) _ _ _ _ load-refused (counted (counted-as e) (held e₄)))
       expr-case (refused f q) e₄ = rw (short, e₁, e₂, e₃, o .answer, p .answer, answer, e₄) load-refused
 
-    cells-case : (r : Reading (List Placed)) → readPlaced words image t at₂ ≡ r → Are
+    cells-case : (r : Parsed (List Placed)) → readPlaced words image t at₂ ≡ r → Are
     unfolding readImage loadInto frontInto
     cells-case (got ps at₃) e₃ = expr-case e₃ (readExpr image t at₃) refl
     cells-case (refused f p) e₃ =
         let q = placed-unopened (rw e₃ at placed-all) in
         rw (short, e₁, e₂, e₃, o .answer, q) load-refused
 
-  tables-case : {m : Format} {at₁ : ℕ} → ltb 16384 (length image) ≡ false → readFormat image ≡ got m at₁ → (r : Reading Tables)
+  tables-case : {m : Format} {at₁ : ℕ} → ltb 16384 (length image) ≡ false → readFormat image ≡ got m at₁ → (r : Parsed Tables)
       → readTables image at₁ ≡ r → Are
   unfolding readImage loadInto frontInto
   tables-case {m} {at₁} short e₁ (got t at₂) e₂ = cells-case short e₁ e₂ (readPlaced words image t at₂) refl
@@ -123,7 +123,7 @@ module _ (words : ℕ) (image ss ts cs ns : List ℕ) (room : 256 ≤ length ts)
       let q = tables-unopened (rw e₂ at (tables-fill image at₁ ss ts room)) in
       rw (short, e₁, e₂, q) load-refused
 
-  format-case : ltb 16384 (length image) ≡ false → (r : Reading Format) → readFormat image ≡ r → Are
+  format-case : ltb 16384 (length image) ≡ false → (r : Parsed Format) → readFormat image ≡ r → Are
   unfolding readImage loadInto frontInto
   format-case short (got m at₁) e₁ = tables-case short e₁ (readTables image at₁) refl
   format-case short (refused f p) e₁ = rw (short, e₁) load-refused
@@ -136,11 +136,11 @@ module _ (words : ℕ) (image ss ts cs ns : List ℕ) (room : 256 ≤ length ts)
   pub load-fill : LoadAre ss ts cs ns (readImage words image) (loadInto words image ss ts cs ns)
   load-fill = length-case (ltb 16384 (length image)) refl
 
-load-answers : {ss ts cs ns : List ℕ} {r : Reading Content} {F : Lent} → LoadAre ss ts cs ns r F → F .result ≡ loading r
+load-answers : {ss ts cs ns : List ℕ} {r : Parsed Content} {F : LoadedTables} → LoadAre ss ts cs ns r F → F .result ≡ loading r
 load-answers (load-are h) = refl
 load-answers load-refused = refl
 
-load-leaves : {ss ts cs ns : List ℕ} {c : Content} {next : ℕ} {F : Lent} → LoadAre ss ts cs ns (got c next) F
+load-leaves : {ss ts cs ns : List ℕ} {c : Content} {next : ℕ} {F : LoadedTables} → LoadAre ss ts cs ns (got c next) F
     → ContentHeld ss ts cs ns c (F .structs) (F .types) (F .cells) (F .nodes)
 load-leaves (load-are h) = h
 

@@ -20,30 +20,30 @@ use Rattle.calculus.specs.declared.Fault.{Fault}
 use Rattle.calculus.specs.declared.Fault.the-variants as fault
 use Rattle.calculus.specs.declared.Refusal.{Refusal}
 use Rattle.image.specs.Content.{Tables}
-use Rattle.image.specs.Reading.{Reading, got, refused, thenRead, number, carried}
+use Rattle.image.specs.Parsing.{Parsed, got, refused, thenRead, number, carried}
 use Rattle.image.specs.Nodes.{Head, parts, readHead, readParts, readNode}
 use Rattle.image.specs.Image.{readExpr}
 use Rattle.image.specs.Tabled.{oneOperation, oneArgument, oneKind, twoOperation, Row, Spans, s-lit, s-var, s-malloc, s-bind, s-one, s-two}
 use Rattle.image.specs.Answers.{refusal}
 use Rattle.image.specs.Filled.{Filled, filled, thenFill}
-use Rattle.image.specs.Filling.{Line, written, codeInto, lineInto, answered, cut, secondInto, partsInto, headInto, nodeInto, carriedBack, expressionInto}
+use Rattle.image.specs.Filling.{NodeLine, written, codeInto, lineInto, expressionAnswer, tooDeep, secondInto, partsInto, headInto, nodeInto, carriedBack, expressionInto}
 use Rattle.image.specs.declared.NodeHead.{NodeHead}
 use Rattle.image.specs.declared.NodeHead.the-variants as head
 use Rattle.image.specs.declared.Expression.{Expression}
 use Rattle.image.specs.declared.Expression.the-variants.{Read, Refused}
 use Rattle.image.proofs.Gives.{Gives, gives, gives-none, gives-test, given-by}
-use Rattle.image.proofs.Rows.{Kept, Opened, written-opens, row-kept, spans-kept}
+use Rattle.image.proofs.Rows.{RowsKept, Opened, written-opens, row-kept, spans-kept}
 use Rattle.image.proofs.Alike.{Alike, alike, alike-refused, Tells, tells-lit, tells-var, tells-malloc, tells-part, tells-parts, tells-binding, line-alike}
 
 -- what went into the rows from i on is what was read
-pub data Into (t : List ℕ) (i : ℕ) : Filled Expression → Reading Expr → Type 0 where
-  into : {e : Expr} {next count : ℕ} {t′ : List ℕ} → count ≡ i + nodes e → Kept t i count t′ → (4 * count ≤ length t → Spans t′ i e)
+pub data Into (t : List ℕ) (i : ℕ) : Filled Expression → Parsed Expr → Type 0 where
+  into : {e : Expr} {next count : ℕ} {t′ : List ℕ} → count ≡ i + nodes e → RowsKept t i count t′ → (4 * count ≤ length t → Spans t′ i e)
       → Into t i (filled (Read next count) t′) (got e next)
   stopped : {f : Fault} {p : ℕ} {t′ : List ℕ} → length t′ ≡ length t → Into t i (filled (Refused (refusal f p)) t′) (refused f p)
 
 -- the same of a head in row i
-data HeadInto (t : List ℕ) (i : ℕ) : Filled NodeHead → Reading Head → Type 0 where
-  head-into : (code : ℕ) {next : ℕ} {o : Operation} {l : Line} {h : Head} → operationOf code ≡ o → Tells o l h
+data HeadInto (t : List ℕ) (i : ℕ) : Filled NodeHead → Parsed Head → Type 0 where
+  head-into : (code : ℕ) {next : ℕ} {o : Operation} {l : NodeLine} {h : Head} → operationOf code ≡ o → Tells o l h
       → HeadInto t i (filled (head.Read (l .parts) next) (written t i code (l .argument) (l .kind))) (got h next)
   head-stopped : {f : Fault} {p : ℕ} → HeadInto t i (filled (head.Refused (refusal f p)) t) (refused f p)
 
@@ -53,7 +53,7 @@ leaf-into : {t t′ : List ℕ} {i : ℕ} {operation : Operation} {argument kind
 leaf-into {i = i} {e = e} n o span = into {e = e} {count = i + 1} (omega arith) (o .kept) (λ room. span (o .row (omega arith)))
 
 -- a node with one part, which went into the table behind it
-one-into : {t t₁ : List ℕ} {i : ℕ} (o : One) {F : Filled Expression} {r : Reading Expr} → Opened t i t₁ (oneOperation o) (oneArgument o) (oneKind o)
+one-into : {t t₁ : List ℕ} {i : ℕ} (o : One) {F : Filled Expression} {r : Parsed Expr} → Opened t i t₁ (oneOperation o) (oneArgument o) (oneKind o)
     → Into t₁ (i + 1) F r → Into t i F (thenRead r (λ e next. got (one o e) next))
 unfolding nodes
 one-into {t} {t₁} {i} o w (into {e} {next} {count} {t′} c k span) =
@@ -74,8 +74,8 @@ module _ (mk : Expr → Expr → Expr) (operation : Operation) (counts : (a b : 
     (spanned : (t : List ℕ) (i : ℕ) (a b : Expr) → Row t i operation 0 0 (suc i + nodes a) → Spans t (suc i) a → Spans t (suc i + nodes a) b → Spans t i (mk a b))
     {t t₁ : List ℕ} {i : ℕ} (w : Opened t i t₁ operation 0 0) where
   -- the first part went into t₂, the second behind it
-  second-after : {a : Expr} {count : ℕ} {t₂ : List ℕ} {F : Filled Expression} {r : Reading Expr}
-      → count ≡ suc i + nodes a → Kept t₁ (i + 1) count t₂ → (4 * count ≤ length t₁ → Spans t₂ (i + 1) a)
+  second-after : {a : Expr} {count : ℕ} {t₂ : List ℕ} {F : Filled Expression} {r : Parsed Expr}
+      → count ≡ suc i + nodes a → RowsKept t₁ (i + 1) count t₂ → (4 * count ≤ length t₁ → Spans t₂ (i + 1) a)
       → Into (set t₂ (4 * i + 3) count) count F r → Into t i F (thenRead r (λ b next. got (mk a b) next))
   second-after {a} {count} {t₂} c k span (into {e = b} {count = count₂} {t′ = t₄} d m span₂) =
       let other : (x : ℕ) → (x ≡ 4 * i + 3 → ⊥) → getD (set t₂ (4 * i + 3) count) x 0 ≡ getD t₂ x 0 = λ x n. getD-set-other t₂ (4 * i + 3) x count 0 n in
@@ -105,7 +105,7 @@ module _ (mk : Expr → Expr → Expr) (operation : Operation) (counts : (a b : 
   second-after {a} {count} {t₂} c k span (stopped e) = stopped (e ∙ length-set t₂ (4 * i + 3) count ∙ k .long ∙ w .kept .long)
 
   -- both parts, one behind the other, the second inside as many lets as the definition says
-  two-into : {F : Filled Expression} {r : Reading Expr} (put : ℕ → ℕ → ℕ → List ℕ → Filled Expression) (get : ℕ → ℕ → ℕ → Reading Expr) (inside inside′ : ℕ)
+  two-into : {F : Filled Expression} {r : Parsed Expr} (put : ℕ → ℕ → ℕ → List ℕ → Filled Expression) (get : ℕ → ℕ → ℕ → Parsed Expr) (inside inside′ : ℕ)
       → ((count next : ℕ) (t₂ : List ℕ) → Into t₂ count (put inside count next t₂) (get inside′ count next))
       → Into t₁ (i + 1) F r
       → Into t i
@@ -119,7 +119,7 @@ module _ (mk : Expr → Expr → Expr) (operation : Operation) (counts : (a b : 
   two-into put get inside inside′ each (stopped e) = stopped (e ∙ w .kept .long)
 
 -- the parts of node i, each going into the table as it is read
-module _ (image : List ℕ) (tables : Tables) (put : ℕ → ℕ → ℕ → List ℕ → Filled Expression) (get : ℕ → ℕ → ℕ → Reading Expr)
+module _ (image : List ℕ) (tables : Tables) (put : ℕ → ℕ → ℕ → List ℕ → Filled Expression) (get : ℕ → ℕ → ℕ → Parsed Expr)
     (each : (lets i at : ℕ) (t : List ℕ) → Into t i (put lets i at t) (get lets i at)) where
   -- the part behind a node
   next-part : (lets i at : ℕ) (t : List ℕ) → Into t (i + 1) (put lets (i + 1) at t) (get lets (suc i) at)
@@ -135,7 +135,7 @@ module _ (image : List ℕ) (tables : Tables) (put : ℕ → ℕ → ℕ → Lis
   more-lets lets count next t =
       subst (λ (n : ℕ). Into t count (put (lets + 1) count next t) (get n count next)) (add-one lets) (each (lets + 1) count next t)
 
-  parts-into : {t : List ℕ} {i : ℕ} {F : Filled NodeHead} {r : Reading Head} (lets : ℕ) → HeadInto t i F r
+  parts-into : {t : List ℕ} {i : ℕ} {F : Filled NodeHead} {r : Parsed Head} (lets : ℕ) → HeadInto t i F r
       → Into t i (thenFill F (partsInto put lets i)) (thenRead r (λ h next. readParts image tables get lets i h next))
   unfolding readParts nodes
   parts-into {t} {i} lets (head-into code {next} {l = l} q tells-lit) = leaf-into refl (written-opens t i code (l .argument) (l .kind) q) s-lit
@@ -152,34 +152,34 @@ module _ (image : List ℕ) (tables : Tables) (put : ℕ → ℕ → ℕ → Lis
   parts-into lets head-stopped = stopped refl
 
 -- a node's code, and what stands behind it
-code-into : (t : List ℕ) (i : ℕ) (r : Reading ℕ) (go : ℕ → ℕ → Filled NodeHead) (go′ : ℕ → ℕ → Reading Head)
+code-into : (t : List ℕ) (i : ℕ) (r : Parsed ℕ) (go : ℕ → ℕ → Filled NodeHead) (go′ : ℕ → ℕ → Parsed Head)
     → ((code next : ℕ) → HeadInto t i (go code next) (go′ code next)) → HeadInto t i (codeInto t r go) (thenRead r go′)
 code-into t i (got code next) go go′ k = k code next
 code-into t i (refused f p) go go′ k = head-stopped
 
-line-into : {r : Reading Line} {s : Reading Head} (t : List ℕ) (i code : ℕ) → Alike (Tells (operationOf code)) r s → HeadInto t i (lineInto t i code r) s
+line-into : {r : Parsed NodeLine} {s : Parsed Head} (t : List ℕ) (i code : ℕ) → Alike (Tells (operationOf code)) r s → HeadInto t i (lineInto t i code r) s
 line-into t i code (alike w) = head-into code refl w
 line-into t i code alike-refused = head-stopped
 
-test-into : (t : List ℕ) (i : ℕ) (b : Bool) (x y : Unit {0} → Filled NodeHead) (x′ y′ : Unit {0} → Reading Head)
+test-into : (t : List ℕ) (i : ℕ) (b : Bool) (x y : Unit {0} → Filled NodeHead) (x′ y′ : Unit {0} → Parsed Head)
     → HeadInto t i (x tt) (x′ tt) → HeadInto t i (y tt) (y′ tt) → HeadInto t i (choose b x y) (choose b x′ y′)
 test-into t i true x y x′ y′ p q = p
 test-into t i false x y x′ y′ p q = q
 
-cut-into : (t : List ℕ) (i at : ℕ) (r : Reading ℕ) → Into t i (filled (cut at r) t) (thenRead r (λ _ _. refused fault.Limit at))
+cut-into : (t : List ℕ) (i at : ℕ) (r : Parsed ℕ) → Into t i (filled (tooDeep at r) t) (thenRead r (λ _ _. refused fault.Limit at))
 cut-into t i at (got v next) = stopped refl
 cut-into t i at (refused f p) = stopped refl
 
 -- what the relation says of the answer, of the table, and of its length
-into-result : {t : List ℕ} {i : ℕ} {F : Filled Expression} {r : Reading Expr} → Into t i F r → F .result ≡ answered i r
+into-result : {t : List ℕ} {i : ℕ} {F : Filled Expression} {r : Parsed Expr} → Into t i F r → F .result ≡ expressionAnswer i r
 into-result (into {next = next} c k span) = ap (Read next) c
 into-result (stopped e) = refl
 
-into-length : {t : List ℕ} {i : ℕ} {F : Filled Expression} {r : Reading Expr} → Into t i F r → length (F .table) ≡ length t
+into-length : {t : List ℕ} {i : ℕ} {F : Filled Expression} {r : Parsed Expr} → Into t i F r → length (F .table) ≡ length t
 into-length (into c k span) = k .long
 into-length (stopped e) = e
 
-into-kept : {t : List ℕ} {i : ℕ} {F : Filled Expression} {e : Expr} {next : ℕ} → Into t i F (got e next) → Kept t i (i + nodes e) (F .table)
+into-kept : {t : List ℕ} {i : ℕ} {F : Filled Expression} {e : Expr} {next : ℕ} → Into t i F (got e next) → RowsKept t i (i + nodes e) (F .table)
 into-kept (into c k span) = rw c at k
 
 into-spans : {t : List ℕ} {i : ℕ} {F : Filled Expression} {e : Expr} {next : ℕ} → Into t i F (got e next) → 4 * (i + nodes e) ≤ length t
@@ -204,7 +204,7 @@ module _ (image : List ℕ) (tables : Tables) (types : List ℕ) (structs : ℕ)
 
   -- The answer is the definition's: the same refusal, or the same offset and the nodes counted.
   pub node-result : (deep lets i at : ℕ) (t : List ℕ)
-      → nodeInto image types structs deep lets i at t .result ≡ answered i (readNode image tables deep lets i at)
+      → nodeInto image types structs deep lets i at t .result ≡ expressionAnswer i (readNode image tables deep lets i at)
   node-result deep lets i at t = into-result (node-is deep lets i at t)
 
   -- The table keeps its length,
@@ -220,20 +220,20 @@ module _ (image : List ℕ) (tables : Tables) (types : List ℕ) (structs : ℕ)
     node-spans room = into-spans was-read room
 
     -- and all others are as they were.
-    pub node-kept : Kept t i (i + nodes e) (nodeInto image types structs deep lets i at t .table)
+    pub node-kept : RowsKept t i (i + nodes e) (nodeInto image types structs deep lets i at t .table)
     node-kept = into-kept was-read
 
 -- The whole expression, from `at` on: what was answered is carried back.
-carried-answered : (at : ℕ) (r : Reading Expr) → carriedBack at (answered 0 r) ≡ answered 0 (carried at r)
+carried-answered : (at : ℕ) (r : Parsed Expr) → carriedBack at (expressionAnswer 0 r) ≡ expressionAnswer 0 (carried at r)
 carried-answered at (got e next) = refl
 carried-answered at (refused f p) = refl
 
 -- what the table holds of an expression
 record Left (t t′ : List ℕ) (e : Expr) (next : ℕ) : Type 0 where
   spans : 4 * nodes e ≤ length t → Spans t′ 0 e
-  kept : Kept t 0 (nodes e) t′
+  kept : RowsKept t 0 (nodes e) t′
 
-left-behind : {t : List ℕ} {F : Filled Expression} {r : Reading Expr} (at : ℕ) → Into t 0 F r → Gives (Left t (F .table)) (carried at r)
+left-behind : {t : List ℕ} {F : Filled Expression} {r : Parsed Expr} (at : ℕ) → Into t 0 F r → Gives (Left t (F .table)) (carried at r)
 left-behind at (into {e} {next} {count} c k span) =
     let d : count ≡ nodes e = omega arith in gives (record { spans = λ room. span (omega arith); kept = rw d at k })
 left-behind at (stopped e) = gives-none
@@ -241,7 +241,7 @@ left-behind at (stopped e) = gives-none
 module _ (image : List ℕ) (tables : Tables) (types : List ℕ) (structs : ℕ) (types-are : types ≡ map packed (tables .types))
     (structs-are : structs ≡ length (tables .structs)) (at : ℕ) (t : List ℕ) where
   -- The answer is the definition's.
-  pub expression-result : expressionInto image types structs at t .result ≡ answered 0 (readExpr image tables at)
+  pub expression-result : expressionInto image types structs at t .result ≡ expressionAnswer 0 (readExpr image tables at)
   unfolding expressionInto readExpr
   expression-result =
       ap (carriedBack at) (node-result (drop at image) tables types structs types-are structs-are 64 0 0 0 t)
@@ -261,17 +261,17 @@ module _ (image : List ℕ) (tables : Tables) (types : List ℕ) (structs : ℕ)
   expression-spans q room = left q .spans room
 
   pub expression-kept : {e : Expr} {next : ℕ} → readExpr image tables at ≡ got e next
-      → Kept t 0 (nodes e) (expressionInto image types structs at t .table)
+      → RowsKept t 0 (nodes e) (expressionInto image types structs at t .table)
   expression-kept q = left q .kept
 
 -- from the code's answer back to what the definition reads
-pub data ReadBack (r : Reading Expr) (i next count : ℕ) : Type 0 where
+pub data ReadBack (r : Parsed Expr) (i next count : ℕ) : Type 0 where
   read-back : (e : Expr) → r ≡ got e next → count ≡ i + nodes e → ReadBack r i next count
 
-pub was-read-as : (r : Reading Expr) {i next count : ℕ} → Read next count ≡ answered i r → ReadBack r i next count
+pub was-read-as : (r : Parsed Expr) {i next count : ℕ} → Read next count ≡ expressionAnswer i r → ReadBack r i next count
 was-read-as (got e n) {i} {next} {count} q = let p : n ≡ next = cc in let c : count ≡ i + nodes e = cc in read-back e (rw p) c
 was-read-as (refused f p) q = let z : _≡_ {A = ℕ} 0 1 = cc in absurd (omega arith)
 
-pub was-refused-as : (r : Reading Expr) (i : ℕ) {q : Refusal} → Refused q ≡ answered i r → r ≡ refused (q .fault) (q .place)
+pub was-refused-as : (r : Parsed Expr) (i : ℕ) {q : Refusal} → Refused q ≡ expressionAnswer i r → r ≡ refused (q .fault) (q .place)
 was-refused-as (got e n) i q = let z : _≡_ {A = ℕ} 0 1 = cc in absurd (omega arith)
 was-refused-as (refused f p) i {q} e = let s : q ≡ refusal f p = cc in rw s

@@ -13,7 +13,7 @@ use Rattle.numbers.specs.declared.Number.{Number}
 use Rattle.numbers.specs.declared.Number.the-variants as told
 use Rattle.numbers.proofs.Laws.{number-sound, number-32}
 use Rattle.calculus.specs.declared.Fault.{Fault}
-use Rattle.image.specs.Reading.{Reading, got, refused, asReading, number, below}
+use Rattle.image.specs.Parsing.{Parsed, got, refused, asReading, number, below}
 use Rattle.image.specs.Answers.{limited}
 use Rattle.image.specs.declared.Limited.{Limited}
 use Rattle.image.specs.declared.Limited.the-variants.{Value}
@@ -52,7 +52,7 @@ below-gives f limit image at =
     (λ _. gives-none))
 
 -- what the code knows of a value that it was answered
-pub value-of : {P : ℕ → ℕ → Type 0} (r : Reading ℕ) {v next : ℕ} → Gives P r → limited r ≡ Value v next → P v next
+pub value-of : {P : ℕ → ℕ → Type 0} (r : Parsed ℕ) {v next : ℕ} → Gives P r → limited r ≡ Value v next → P v next
 value-of {P} (got a n) {v} {next} g e = let p : a ≡ v = cc in let q : n ≡ next = cc in rw (← p, ← q) (given g)
 value-of (refused f p) g e = let z : _≡_ {A = ℕ} 0 1 = cc in absurd (omega arith)
 

@@ -14,14 +14,14 @@ use Rattle.image.specs.Filling.{written}
 use Rattle.image.proofs.Sets.{sets-there, stored-there, stored-length, stored-before, stored-behind}
 
 -- all but the rows from i up to j is as it was
-pub record Kept (t : List ℕ) (i j : ℕ) (t′ : List ℕ) : Type 0 where
+pub record RowsKept (t : List ℕ) (i j : ℕ) (t′ : List ℕ) : Type 0 where
   pub long : length t′ ≡ length t
   pub front : (k : ℕ) → k < 4 * i → getD t′ k 0 ≡ getD t k 0
   pub back : (k : ℕ) → 4 * j ≤ k → getD t′ k 0 ≡ getD t k 0
 
 -- row i is written, with no second part yet
 pub record Opened (t : List ℕ) (i : ℕ) (t′ : List ℕ) (operation : Operation) (argument kind : ℕ) : Type 0 where
-  pub kept : Kept t i (i + 1) t′
+  pub kept : RowsKept t i (i + 1) t′
   pub row : 4 * i + 3 < length t → Row t′ i operation argument kind 0
 
 module _ (t : List ℕ) (i code argument kind : ℕ) {operation : Operation} (is : operationOf code ≡ operation) where

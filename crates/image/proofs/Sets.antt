@@ -10,7 +10,7 @@ use lib.Dec.{ltb}
 use lib.Seq.{sets, sets-eq, length-sets, getD-set-same, getD-set-other, take-at, drop-at, take-nil}
 use borrow.Author.Tests.{lt-ltb, le-ltb}
 use Rattle.choice.specs.Choice.{choose-case}
-use Rattle.image.specs.Filled.{stored}
+use Rattle.image.specs.Filled.{rowStored}
 
 -- what stands before the numbers is as it was
 pub sets-before : (t : List ℕ) (to : ℕ) (ns : List ℕ) (i : ℕ) → i < to → getD (sets t to ns) i 0 ≡ getD t i 0
@@ -46,25 +46,25 @@ module _ (t : List ℕ) (to a b c : ℕ) where
 
 -- a row of a table
 module _ (width : ℕ) (t : List ℕ) (i : ℕ) (row : List ℕ) where
-  pub stored-there : i < length t / width → stored width t i row ≡ sets t (width * i) row
-  unfolding stored
+  pub stored-there : i < length t / width → rowStored width t i row ≡ sets t (width * i) row
+  unfolding rowStored
   stored-there h = rw (lt-ltb i (length t / width) h)
 
-  pub stored-none : length t / width ≤ i → stored width t i row ≡ t
-  unfolding stored
+  pub stored-none : length t / width ≤ i → rowStored width t i row ≡ t
+  unfolding rowStored
   stored-none h = rw (le-ltb i (length t / width) h)
 
-  pub stored-length : length (stored width t i row) ≡ length t
-  unfolding stored
+  pub stored-length : length (rowStored width t i row) ≡ length t
+  unfolding rowStored
   stored-length = choose-case (λ (l : List ℕ). length l ≡ length t) (ltb i (length t / width)) _ _ (length-sets t (width * i) row) refl
 
-  pub stored-before : (k : ℕ) → k < width * i → getD (stored width t i row) k 0 ≡ getD t k 0
-  unfolding stored
+  pub stored-before : (k : ℕ) → k < width * i → getD (rowStored width t i row) k 0 ≡ getD t k 0
+  unfolding rowStored
   stored-before k h =
       choose-case (λ (l : List ℕ). getD l k 0 ≡ getD t k 0) (ltb i (length t / width)) _ _ (sets-before t (width * i) row k h) refl
 
-  pub stored-behind : (k : ℕ) → width * i + length row ≤ k → getD (stored width t i row) k 0 ≡ getD t k 0
-  unfolding stored
+  pub stored-behind : (k : ℕ) → width * i + length row ≤ k → getD (rowStored width t i row) k 0 ≡ getD t k 0
+  unfolding rowStored
   stored-behind k h =
       choose-case (λ (l : List ℕ). getD l k 0 ≡ getD t k 0) (ltb i (length t / width)) _ _ (sets-behind t (width * i) row k h) refl
 

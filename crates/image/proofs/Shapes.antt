@@ -19,13 +19,15 @@ use Rattle.calculus.specs.declared.Operation.{Operation}
 use Rattle.calculus.specs.declared.Operation.the-variants as op
 use Rattle.calculus.specs.declared.Fault.the-variants as fault
 use Rattle.image.specs.Content.{Tables}
-use Rattle.image.specs.Reading.{Reading, got, refused, thenRead, number, below, carried}
+use Rattle.image.specs.Parsing.{Parsed, got, refused, thenRead, number, below, carried}
 use Rattle.image.specs.Tables.{readTarget}
 use Rattle.image.specs.Nodes.{Head, leaf, part, parts, binding, readKind, headOf, readHead, readParts, readNode}
 use Rattle.image.specs.Image.{readExpr}
-use Rattle.image.specs.Shape.{height, Scoped, scoped-lit, scoped-var, scoped-malloc, scoped-bind, scoped-one, scoped-two, KnownKind, known-kind, KnownTarget, known-word, known-struct, known-array, KnownOne, known-unchecked, known-cast, known-read, known-field, Known, known-lit, known-var, known-malloc, known-bind, known-one, known-two, SmallExpr, small-lit, small-var, small-malloc, small-bind, small-one, small-two, SmallOne, small-unchecked, small-cast, small-read, small-field}
+use Rattle.image.specs.Shape.{height, Scoped, scoped-lit, scoped-var, scoped-malloc, scoped-bind, scoped-one, scoped-two, KnownKind, known-kind, KnownTarget, KnownOne, known-unchecked, known-cast, known-read, known-field, Known, known-lit, known-var, known-malloc, known-bind, known-one, known-two, SmallExpr, small-lit, small-var, small-malloc, small-bind, small-one, small-two, SmallOne, small-unchecked, small-cast, small-read, small-field}
 use Rattle.image.proofs.Gives.{Gives, gives, gives-none, gives-then, gives-test, gives-more, given-by}
 use Rattle.image.proofs.Numbers.{number-gives, below-gives}
+use Rattle.image.proofs.KnownKinds.{entry-small, known-pointer}
+use Rattle.image.proofs.TypeLaws.{target-gives}
 
 pub nodes-some : (e : Expr) → 0 < nodes e
 unfolding nodes
@@ -45,13 +47,13 @@ record Past (image : List ℕ) (at next : ℕ) : Type 0 where
 data Sane (t : Tables) (lets : ℕ) : Head → Type 0 where
   sane-lit : {n : ℕ} {κ : Kind} → n < 2 ^ 32 → KnownKind t κ → Sane t lets (leaf (lit n κ))
   sane-var : {k : ℕ} → k < lets → Sane t lets (leaf (var k))
-  sane-malloc : {ω : Target} → KnownTarget t ω → Sane t lets (leaf (malloc ω))
+  sane-malloc : {ω : Target} → KnownTarget (length (t .structs)) (length (t .types)) ω → Sane t lets (leaf (malloc ω))
   sane-part : {o : One} → KnownOne t o → Sane t lets (part o)
   sane-parts : {o : Two} → Sane t lets (parts o)
   sane-binding : Sane t lets binding
 
 -- An expression that was read at `at`, at most `deep` deep, inside `lets` lets and behind `before` nodes.
-pub record Good (image : List ℕ) (t : Tables) (deep lets before at : ℕ) (e : Expr) (next : ℕ) : Type 0 where
+pub record NodeGood (image : List ℕ) (t : Tables) (deep lets before at : ℕ) (e : Expr) (next : ℕ) : Type 0 where
   pub few : before + nodes e ≤ 2048
   pub low : height e ≤ deep
   pub scoped : Scoped lets e
@@ -64,20 +66,6 @@ module _ (image : List ℕ) (t : Tables) where
   kind-gives at =
       gives-then (below fault.Unknown (length (t .types)) image at) _ (below-gives fault.Unknown (length (t .types)) image at)
       (λ n next s. gives (known-kind n (s .limited-by) refl, record { not-before = omega arith; inside = s .within }))
-
-  target-gives : (at : ℕ) → Gives (λ ω next. KnownTarget t ω × Past image at next) (readTarget image (length (t .structs)) (length (t .types)) at)
-  unfolding readTarget
-  target-gives at =
-      gives-then (below fault.Unknown 3 image at) _ (below-gives fault.Unknown 3 image at)
-      (λ kind at₁ a. gives-test (eqb kind 0) _ _
-      (λ _. gives-then (below fault.Unknown (length (t .types)) image at₁) _ (below-gives fault.Unknown (length (t .types)) image at₁)
-      (λ n at₂ b. gives (known-word (b .limited-by), record { not-before = omega arith; inside = b .within })))
-      (λ _. gives-test (eqb kind 1) _ _
-      (λ _. gives-then (below fault.Unknown (length (t .structs)) image at₁) _ (below-gives fault.Unknown (length (t .structs)) image at₁)
-      (λ n at₂ b. gives (known-struct (b .limited-by), record { not-before = omega arith; inside = b .within })))
-      (λ _. gives-then (below fault.Limit 65536 image at₁) _ (below-gives fault.Limit 65536 image at₁)
-      (λ k at₂ b. gives-then (below fault.Unknown (length (t .types)) image at₂) _ (below-gives fault.Unknown (length (t .types)) image at₂)
-      (λ n at₃ d. gives (known-array (b .limited-by) (d .limited-by), record { not-before = omega arith; inside = d .within }))))))
 
   here : (at : ℕ) → at ≤ length image → Past image at at
   here at w = record { not-before = omega arith; inside = w }
@@ -94,8 +82,8 @@ module _ (image : List ℕ) (t : Tables) where
       (λ k at₁ a. gives (sane-var (a .limited-by), record { not-before = omega arith; inside = a .within }))
   head-of-gives lets first op.Let at w = gives (sane-binding, here at w)
   head-of-gives lets first op.Malloc at w =
-      gives-then (readTarget image (length (t .structs)) (length (t .types)) at) _ (target-gives at)
-      (λ ω at₁ a. gives (sane-malloc (a .0), a .1))
+      gives-then (readTarget image (length (t .structs)) (length (t .types)) at) _ (target-gives image (length (t .structs)) (length (t .types)) at)
+      (λ ω at₁ a. gives (sane-malloc (a .has), record { not-before = omega arith; inside = a .within }))
   head-of-gives lets first op.Unchecked at w = gives (sane-part known-unchecked, here at w)
   head-of-gives lets first op.Cast at w =
       gives-then (readKind image t at) _ (kind-gives at) (λ κ at₁ a. gives (sane-part (known-cast (a .0)), a .1))
@@ -125,7 +113,7 @@ module _ (image : List ℕ) (t : Tables) where
 
   -- a node without parts
   leaf-good : (deep lets before at : ℕ) {e : Expr} {next : ℕ} → Sane t lets (leaf e) → before < 2048 → at < next → next ≤ length image
-      → Good image t (suc deep) lets before at e next
+      → NodeGood image t (suc deep) lets before at e next
   unfolding nodes height
   leaf-good deep lets before at (sane-lit n k) r b i =
       record { few = omega arith; low = omega arith; scoped = scoped-lit; known = known-lit n k; long = omega arith; inside = i }
@@ -138,10 +126,10 @@ module _ (image : List ℕ) (t : Tables) where
   part-known (sane-part k) = k
 
   -- the parts of a node, each read at most `deep` deep
-  module _ (deep : ℕ) (part′ : ℕ → ℕ → ℕ → Reading Expr)
-      (each : (lets before at : ℕ) → Gives (Good image t deep lets before at) (part′ lets before at)) where
+  module _ (deep : ℕ) (part′ : ℕ → ℕ → ℕ → Parsed Expr)
+      (each : (lets before at : ℕ) → Gives (NodeGood image t deep lets before at) (part′ lets before at)) where
     parts-give : (lets before at : ℕ) (h : Head) (next : ℕ) → Headed lets before at h next
-        → Gives (Good image t (suc deep) lets before at) (readParts image t part′ lets before h next)
+        → Gives (NodeGood image t (suc deep) lets before at) (readParts image t part′ lets before h next)
     unfolding readParts nodes height
     parts-give lets before at (leaf e) next s = gives (leaf-good deep lets before at (s .sane) (s .room) (s .behind) (s .inside))
     parts-give lets before at (part o) next s =
@@ -180,7 +168,7 @@ module _ (image : List ℕ) (t : Tables) where
           inside = h .inside;
         })))
 
-  node-gives : (deep lets before at : ℕ) → Gives (Good image t deep lets before at) (readNode image t deep lets before at)
+  node-gives : (deep lets before at : ℕ) → Gives (NodeGood image t deep lets before at) (readNode image t deep lets before at)
   unfolding readNode
   node-gives zero lets before at = gives-then (number image at) _ (number-gives image at) (λ _ _ _. gives-none)
   node-gives (suc deep) lets before at =
@@ -189,11 +177,11 @@ module _ (image : List ℕ) (t : Tables) where
 
   -- An expression that was read at `at`, at most `deep` deep, inside `lets` lets and behind `before` nodes.
   pub node-good : {deep lets before at : ℕ} {e : Expr} {next : ℕ} → readNode image t deep lets before at ≡ got e next
-      → Good image t deep lets before at e next
+      → NodeGood image t deep lets before at e next
   node-good {deep} {lets} {before} {at} q = given-by (node-gives deep lets before at) q
 
 -- It ends behind its first byte.
-pub good-behind : {image : List ℕ} {t : Tables} {deep lets before at : ℕ} {e : Expr} {next : ℕ} → Good image t deep lets before at e next → at < next
+pub good-behind : {image : List ℕ} {t : Tables} {deep lets before at : ℕ} {e : Expr} {next : ℕ} → NodeGood image t deep lets before at e next → at < next
 good-behind {e = e} g = omega (arith, nodes-some e)
 
 -- The whole expression, from `at` on.
@@ -206,7 +194,7 @@ pub record Whole (image : List ℕ) (t : Tables) (at : ℕ) (e : Expr) (next : �
   pub ends : next ≤ length image
 
 module _ (image : List ℕ) (t : Tables) (at : ℕ) where
-  expr-gives : (r : Reading Expr) → Gives (Good (drop at image) t 64 0 0 0) r → Gives (Whole image t at) (carried at r)
+  expr-gives : (r : Parsed Expr) → Gives (NodeGood (drop at image) t 64 0 0 0) r → Gives (Whole image t at) (carried at r)
   expr-gives (got e next) (gives g) =
       gives
       {a = e} {next = at + next}
@@ -230,11 +218,6 @@ module _ (t : Tables) (few-types : length (t .types) ≤ 256) (few-structs : len
   kind-small : {κ : Kind} → KnownKind t κ → Small κ
   kind-small (known-kind n l e) = rw e (all-small n l)
 
-  target-small : {ω : Target} → KnownTarget t ω → Small (pointer Checked ω)
-  target-small (known-word {n} l) = small-word {n = n} (omega arith)
-  target-small (known-struct {s} l) = small-struct {n = s} (omega arith)
-  target-small (known-array {n = n} k l) = small-array {n = n} k (omega arith)
-
   one-small : {o : One} → KnownOne t o → SmallOne o
   one-small known-unchecked = small-unchecked
   one-small (known-cast k) = small-cast (kind-small k)
@@ -244,7 +227,7 @@ module _ (t : Tables) (few-types : length (t .types) ≤ 256) (few-structs : len
   pub known-small : {e : Expr} → Known t e → SmallExpr e
   known-small (known-lit n k) = small-lit (kind-small k)
   known-small known-var = small-var
-  known-small (known-malloc ω) = small-malloc (target-small ω)
+  known-small (known-malloc ω) = small-malloc (entry-small few-structs few-types (known-pointer Checked ω))
   known-small (known-bind a b) = small-bind (known-small a) (known-small b)
   known-small (known-one o e) = small-one (one-small o) (known-small e)
   known-small (known-two a b) = small-two (known-small a) (known-small b)

@@ -11,7 +11,7 @@ use lib.ListN.{length, getD, set, take, drop, length-drop, List·getD-eq-default
 use lib.Seq.{sets, length-sets, length-take-le, getD-take, getD-drop, ext-getD}
 use borrow.Author.Tests.{ltb-true, ltb-false, eqb-false}
 use Rattle.calculus.specs.declared.Fault.the-variants as fault
-use Rattle.image.specs.Reading.{below, several}
+use Rattle.image.specs.Parsing.{below, several}
 use Rattle.image.specs.Tables.{readStruct}
 use Rattle.image.specs.Tabled.{HeldStructs}
 use Rattle.image.specs.Tabling.{fieldsInto, structInto, structsInto}

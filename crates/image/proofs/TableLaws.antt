@@ -9,9 +9,9 @@ use native.Mathlib.Omega.{arith}
 use lib.ListN.{length, set}
 use Rattle.calculus.specs.declared.Refusal.{Refusal}
 use Rattle.calculus.specs.declared.Fault.the-variants as fault
-use Rattle.image.specs.Reading.{Reading, got, refused, below}
+use Rattle.image.specs.Parsing.{Parsed, got, refused, below}
 use Rattle.image.specs.Filled.{filled}
-use Rattle.image.specs.Tabling.{TwoCounts, countsAt, counted, onCounted, tabled, typesAfter, structsAfter, structsInto, typesInto, tablesInto, placedInto, onLimited, formatted, onFormatted, cellsAfter, tablesAfter, fronted, frontInto}
+use Rattle.image.specs.Tabling.{TwoCounts, countsAt, countsAnswer, onCounted, tabled, typesAfter, structsAfter, structsInto, typesInto, tablesInto, placedInto, onLimited, formatted, onFormatted, cellsAfter, tablesAfter, fronted, frontInto}
 use Rattle.image.specs.Image.{readFormat}
 use Rattle.image.specs.Answers.{refusal, limited}
 use Rattle.image.specs.declared.Format.{Format}
@@ -48,7 +48,7 @@ counts-give image at =
     limits S T at₁ at₂ p q w a b = record { behind = omega arith; within = w; few-structs = omega arith; few-types = omega arith }
 
 -- what the code knows of counts that it was answered
-pub counts-value : (image : List ℕ) (at : ℕ) {l : Counted} {S T next : ℕ} → l ≡ counted (countsAt image at) → l ≡ both.Tables S T next
+pub counts-value : (image : List ℕ) (at : ℕ) {l : Counted} {S T next : ℕ} → l ≡ countsAnswer (countsAt image at) → l ≡ both.Tables S T next
     → (S ≤ 32) × (T ≤ 255)
 counts-value image at e p =
     let s = given-by (counts-give image at) (was-counted (countsAt image at) e p) in
@@ -73,9 +73,9 @@ tables-within : (image : List ℕ) (at : ℕ) (ss ts : List ℕ) → Within (tab
 unfolding tablesInto
 tables-within image at ss ts = go (countsAt image at) (counts-give image at)
   where
-    go : (r : Reading TwoCounts) → Gives (Limits image at) r
+    go : (r : Parsed TwoCounts) → Gives (Limits image at) r
         → Within
-        (onCounted (counted r) (λ q. tabled (both.Refused q) ss ts) (λ S T next. structsAfter image S T ts (structsInto image (T + 1) S 0 next ss)) .result)
+        (onCounted (countsAnswer r) (λ q. tabled (both.Refused q) ss ts) (λ S T next. structsAfter image S T ts (structsInto image (T + 1) S 0 next ss)) .result)
     go (got c next) g =
         let f = structsInto image (c .types + 1) (c .structs) 0 next ss in
         structs-within (c .structs) (c .types) (given g .few-structs) (given g .few-types) image ts (f .result) (f .table)

@@ -9,7 +9,7 @@ use lib.Seq.{take-all}
 use Rattle.calculus.specs.declared.Fault.the-variants as fault
 use Rattle.calculus.specs.declared.Refusal.{Refusal}
 use Rattle.numbers.specs.Reading.{groups}
-use Rattle.image.specs.Reading.{number}
+use Rattle.image.specs.Parsing.{number}
 use Rattle.image.specs.Answers.{refusal}
 use Rattle.image.specs.Filled.{filled}
 use Rattle.image.specs.Filling.{headInto, nodeInto, expressionInto}

@@ -6,7 +6,7 @@ use native.Mathlib.Omega.{arith}
 use Rattle.cells.specs.Code.{modeNumber, modeOf, packed}
 use Rattle.cells.specs.declared.Kind.the-variants.{Word, Struct, Array}
 use Rattle.calculus.specs.Expr.{Target, toWord, toStruct, toArray, pointer}
-use Rattle.image.specs.Reading.{Reading, got, refused, thenRead}
+use Rattle.image.specs.Parsing.{Parsed, got, refused, thenRead}
 use Rattle.image.specs.Answers.{limited, mapped, pointerCode}
 
 mode-number : (m : ℕ) → m < 2 → modeNumber (modeOf m) ≡ m
@@ -28,12 +28,12 @@ unfolding packed
 array-code m k n h = rw (mode-number m h) (omega arith)
 
 -- a target with one number last is answered by its code, if the number in its place makes that code
-coded : (f : ℕ → ℕ) (g : Target → ℕ) (h : ℕ → Target) (r : Reading ℕ) → ((n : ℕ) → f n ≡ g (h n))
+coded : (f : ℕ → ℕ) (g : Target → ℕ) (h : ℕ → Target) (r : Parsed ℕ) → ((n : ℕ) → f n ≡ g (h n))
     → limited (mapped f r) ≡ limited (mapped g (thenRead r (λ n next. got (h n) next)))
 coded f g h (got n next) e = rw (e n)
 coded f g h (refused q p) e = refl
 
-module _ (m : ℕ) (small : m < 2) (r : Reading ℕ) where
+module _ (m : ℕ) (small : m < 2) (r : Parsed ℕ) where
   pub coded-word : limited (mapped (λ n. 2 + m + 8 * n) r) ≡ limited (mapped (pointerCode m) (thenRead r (λ n next. got (toWord n) next)))
   coded-word = coded _ (pointerCode m) toWord r (λ n. word-code m n small)
 
@@ -45,7 +45,7 @@ module _ (m : ℕ) (small : m < 2) (r : Reading ℕ) where
   coded-array k = coded _ (pointerCode m) (toArray k) r (λ n. array-code m k n small)
 
 -- the code of the pointer to a target is the code of the kind that it makes
-pub mapped-pointer : (m : ℕ) (r : Reading Target)
+pub mapped-pointer : (m : ℕ) (r : Parsed Target)
     → limited (mapped (pointerCode m) r) ≡ limited (mapped packed (thenRead r (λ ω next. got (pointer (modeOf m) ω) next)))
 mapped-pointer m (got ω next) = refl
 mapped-pointer m (refused f p) = refl

@@ -9,7 +9,7 @@ use lib.ListN.{length, getD, set, take}
 use Rattle.cells.specs.Code.{packed}
 use Rattle.calculus.specs.declared.Fault.{Fault}
 use Rattle.calculus.specs.declared.Fault.the-variants as fault
-use Rattle.image.specs.Reading.{got, refused, below}
+use Rattle.image.specs.Parsing.{got, refused, below}
 use Rattle.image.specs.Tables.{readEntry}
 use Rattle.image.specs.Answers.{mapped}
 use Rattle.image.specs.Filled.{Filled, filled}

@@ -14,13 +14,14 @@ use Rattle.cells.specs.Code.{packed, modeOf, Small}
 use Rattle.cells.specs.declared.Kind.{Kind}
 use Rattle.cells.specs.declared.Kind.the-variants.{Int}
 use Rattle.calculus.specs.declared.Fault.the-variants as fault
-use Rattle.image.specs.Reading.{below}
+use Rattle.image.specs.Parsing.{below}
 use Rattle.image.specs.Tables.{readTarget, readEntry, isAmong, readTypes}
 use Rattle.image.specs.Tabling.{typesInto}
 use Rattle.image.proofs.Gives.{Gives, gives, gives-none, gives-then, gives-test, gives-more}
 use Rattle.image.proofs.Numbers.{below-gives}
 use Rattle.image.proofs.Each.{each-of, Part}
-use Rattle.image.proofs.KnownKinds.{Known, known-int, known-more, known-small, known-pointer, KnownTarget, to-word, to-struct, to-array, among-kinds, not-among}
+use Rattle.image.specs.Shape.{KnownTarget, to-word, to-struct, to-array}
+use Rattle.image.proofs.KnownKinds.{KnownEntry, known-int, known-more, entry-small, known-pointer, among-kinds, not-among}
 use Rattle.image.proofs.Fills.{Fills, fills, fills-none, fills-told, fills-test, fills-more}
 
 between : {a b c : ℕ} → a < b → b < c → a < c
@@ -43,7 +44,7 @@ target-gives image S known at =
     (record { has = to-array (t .limited-by) (u .limited-by); behind = between (s .behind) (between (t .behind) (u .behind)); within = u .within }))))))
 
 -- a type entry's numbers are below its own
-pub entry-gives : (image : List ℕ) (S own at : ℕ) → Gives (Part (Known S own) (length image) at) (readEntry image S own at)
+pub entry-gives : (image : List ℕ) (S own at : ℕ) → Gives (Part (KnownEntry S own) (length image) at) (readEntry image S own at)
 unfolding readEntry
 entry-gives image S own at =
     gives-then (below fault.Unknown 2 image at) _ (below-gives fault.Unknown 2 image at)
@@ -52,13 +53,13 @@ entry-gives image S own at =
 
 -- a list of word types: the numbers in each entry are below the entry's own, and no two entries are equal
 pub record TypeList (S : ℕ) (τs : List Kind) : Type 0 where
-  pub known : (i : ℕ) → i < length τs → Known S i (getD τs i Int)
+  pub known : (i : ℕ) → i < length τs → KnownEntry S i (getD τs i Int)
   pub distinct : (i j : ℕ) → i < j → j < length τs → getD τs j Int ≡ getD τs i Int → ⊥
 
 pub int-alone : (S : ℕ) → TypeList S (Int ∷ [])
 int-alone S = record { known = known; distinct = λ i j h l. absurd (omega arith) }
   where
-    known : (i : ℕ) → i < 1 → Known S i (getD (Int ∷ []) i Int)
+    known : (i : ℕ) → i < 1 → KnownEntry S i (getD (Int ∷ []) i Int)
     known zero h = known-int
     known (suc i) h = known-int
 
@@ -66,7 +67,7 @@ length-snoc : (τs : List Kind) (κ : Kind) → length (τs ++ κ ∷ []) ≡ su
 length-snoc τs κ = length-append τs (κ ∷ []) ∙ (omega arith)
 
 -- one more entry
-pub type-more : (S : ℕ) (τs : List Kind) (κ : Kind) → TypeList S τs → Known S (length τs) κ → isAmong κ τs ≡ false → TypeList S (τs ++ κ ∷ [])
+pub type-more : (S : ℕ) (τs : List Kind) (κ : Kind) → TypeList S τs → KnownEntry S (length τs) κ → isAmong κ τs ≡ false → TypeList S (τs ++ κ ∷ [])
 type-more S τs κ l k e =
     record {
       known = λ i h. ⊎-elim (λ p. at-end i p) (λ p. rw (List·getD-append τs (κ ∷ []) Int i p) (l .known i p)) (split i h);
@@ -76,7 +77,7 @@ type-more S τs κ l k e =
     split : (i : ℕ) → i < length (τs ++ κ ∷ []) → (i ≡ length τs) ⊎ (i < length τs)
     split i h = let b : i < suc (length τs) = omega (arith, length-snoc τs κ) in eq-or-lt-of-le (omega arith)
 
-    at-end : (i : ℕ) → i ≡ length τs → Known S i (getD (τs ++ κ ∷ []) i Int)
+    at-end : (i : ℕ) → i ≡ length τs → KnownEntry S i (getD (τs ++ κ ∷ []) i Int)
     at-end i p = rw (p, getD-append-seam τs κ [] Int) k
 
     inner : (i j : ℕ) → i < j → j < length τs → getD (τs ++ κ ∷ []) j Int ≡ getD (τs ++ κ ∷ []) i Int → ⊥
@@ -108,7 +109,7 @@ types-give image S (suc left) τs at l =
     (λ e. gives-more (λ τs′ end t. step κ τs′ next end s t)
     (types-give image S left (τs ++ κ ∷ []) next (type-more S τs κ l (s .has) e))))
   where
-    step : (κ : Kind) (τs′ : List Kind) (next end : ℕ) → Part (Known S (length τs)) (length image) at κ next
+    step : (κ : Kind) (τs′ : List Kind) (next end : ℕ) → Part (KnownEntry S (length τs)) (length image) at κ next
         → TypesRead image S left (τs ++ κ ∷ []) next τs′ end → TypesRead image S (suc left) τs at τs′ end
     step κ τs′ next end s t =
         record {
@@ -146,8 +147,8 @@ types-fill image S (suc left) τs at t s w room l e =
     (type-more S τs κ l (p .has) n) (front κ))
     (λ τs′ end t′ _ q. step κ τs′ t′ q)))))
   where
-    small : (κ : Kind) → Known S (length τs) κ → Small κ
-    small κ k = known-small s (omega arith) k
+    small : (κ : Kind) → KnownEntry S (length τs) κ → Small κ
+    small κ k = entry-small s (omega arith) k
 
     grown : (κ : Kind) → length (τs ++ κ ∷ []) ≡ length τs + 1
     grown κ = omega (arith, length-snoc τs κ)

@@ -20,11 +20,11 @@ use Rattle.calculus.specs.declared.Operation.the-variants as op
 use Rattle.calculus.specs.declared.Fault.{Fault}
 use Rattle.calculus.specs.declared.Fault.the-variants as fault
 use Rattle.calculus.specs.declared.Refusal.{Refusal}
-use Rattle.image.specs.Reading.{Reading, got, refused, thenRead, asReading, number, below}
+use Rattle.image.specs.Parsing.{Parsed, got, refused, thenRead, asReading, number, below}
 use Rattle.image.specs.Tables.{readTarget}
 use Rattle.image.specs.Answers.{mapped, pointerCode}
 use Rattle.image.specs.Filled.{Filled, filled}
-use Rattle.image.specs.Filling.{Line, kindCode, literal, lineOf, cut, codeInto, lineInto, headInto, secondInto, partsInto, nodeInto}
+use Rattle.image.specs.Filling.{NodeLine, kindCode, literal, lineOf, tooDeep, codeInto, lineInto, headInto, secondInto, partsInto, nodeInto}
 use Rattle.image.specs.declared.Parts.the-variants.{Leaf, One, Two}
 use Rattle.image.specs.declared.NodeHead.{NodeHead}
 use Rattle.image.specs.declared.NodeHead.the-variants as head
@@ -32,21 +32,21 @@ use Rattle.image.specs.declared.Expression.{Expression}
 use Rattle.image.specs.declared.Expression.the-variants as expression
 
 -- the offset behind what was read, or the fault's place, is at most `limit`
-pub data Within (limit : ℕ) {A : Type 0} : Reading A → Type 0 where
+pub data Within (limit : ℕ) {A : Type 0} : Parsed A → Type 0 where
   within : {a : A} {next : ℕ} → next ≤ limit → Within limit (got a next)
   within-refused : {f : Fault} {p : ℕ} → p ≤ limit → Within limit (refused f p)
 
-pub within-then : {limit : ℕ} {A B : Type 0} (r : Reading A) (go : A → ℕ → Reading B)
+pub within-then : {limit : ℕ} {A B : Type 0} (r : Parsed A) (go : A → ℕ → Parsed B)
     → Within limit r → ((a : A) (next : ℕ) → next ≤ limit → Within limit (go a next)) → Within limit (thenRead r go)
 within-then (got a next) go (within h) k = k a next h
 within-then (refused f p) go (within-refused h) k = within-refused h
 
-pub within-test : {limit : ℕ} {A : Type 0} (t : Bool) (a b : Unit {0} → Reading A)
+pub within-test : {limit : ℕ} {A : Type 0} (t : Bool) (a b : Unit {0} → Parsed A)
     → Within limit (a tt) → Within limit (b tt) → Within limit (choose t a b)
 within-test true a b p q = p
 within-test false a b p q = q
 
-within-mapped : {limit : ℕ} {A B : Type 0} (f : A → B) (r : Reading A) → Within limit r → Within limit (mapped f r)
+within-mapped : {limit : ℕ} {A B : Type 0} (f : A → B) (r : Parsed A) → Within limit r → Within limit (mapped f r)
 within-mapped f (got a next) (within h) = within h
 within-mapped f (refused e p) (within-refused h) = within-refused h
 
@@ -86,16 +86,16 @@ pub data EndsWithin (limit : ℕ) : Expression → Type 0 where
   ends-read : {next count : ℕ} → next ≤ limit → EndsWithin limit (expression.Read next count)
   ends-refused : {r : Refusal} → r .place ≤ limit → EndsWithin limit (expression.Refused r)
 
-code-within : {limit : ℕ} (t : List ℕ) (r : Reading ℕ) (go : ℕ → ℕ → Filled NodeHead)
+code-within : {limit : ℕ} (t : List ℕ) (r : Parsed ℕ) (go : ℕ → ℕ → Filled NodeHead)
     → Within limit r → ((code next : ℕ) → next ≤ limit → HeadWithin limit (go code next .result)) → HeadWithin limit (codeInto t r go .result)
 code-within t (got code next) go (within h) k = k code next h
 code-within t (refused f p) go (within-refused h) k = head-refused h
 
-row-within : {limit : ℕ} (t : List ℕ) (i code : ℕ) (r : Reading Line) → Within limit r → HeadWithin limit (lineInto t i code r .result)
+row-within : {limit : ℕ} (t : List ℕ) (i code : ℕ) (r : Parsed NodeLine) → Within limit r → HeadWithin limit (lineInto t i code r .result)
 row-within t i code (got l next) (within h) = head-read h
 row-within t i code (refused f p) (within-refused h) = head-refused h
 
-cut-within : {limit : ℕ} (at : ℕ) (r : Reading ℕ) → at ≤ limit → Within limit r → EndsWithin limit (cut at r)
+cut-within : {limit : ℕ} (at : ℕ) (r : Parsed ℕ) → at ≤ limit → Within limit r → EndsWithin limit (tooDeep at r)
 cut-within at (got v next) h w = ends-refused h
 cut-within at (refused f p) h (within-refused l) = ends-refused l
 

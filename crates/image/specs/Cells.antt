@@ -10,10 +10,10 @@ use Rattle.cells.specs.declared.Kind.the-variants.{Int}
 use Rattle.calculus.specs.declared.Fault.the-variants as fault
 use Rattle.calculus.specs.Setting.{cell}
 use Rattle.image.specs.Content.{Placed}
-use Rattle.image.specs.Reading.{Reading, got, refused, thenRead, number, below}
+use Rattle.image.specs.Parsing.{Parsed, got, refused, thenRead, number, below}
 
 -- the address behind `before` by the gap at `at`: a gap of 0 is fault 6, an address above W fault 7, both at the gap
-unfoldable pub readAddress : (image : List ℕ) (words before at : ℕ) → Reading ℕ
+unfoldable pub readAddress : (image : List ℕ) (words before at : ℕ) → Parsed ℕ
 readAddress image words before at =
     thenRead (number image at)
     (λ gap next.
@@ -21,7 +21,7 @@ readAddress image words before at =
     choose (ltb words (before + gap)) (λ _. refused fault.Beyond at) (λ _. got (before + gap) next))
 
 -- one cell behind the address `before`
-unfoldable pub readCell : (image : List ℕ) (words : ℕ) (types : List Kind) (before at : ℕ) → Reading Placed
+unfoldable pub readCell : (image : List ℕ) (words : ℕ) (types : List Kind) (before at : ℕ) → Parsed Placed
 readCell image words types before at =
     thenRead (readAddress image words before at)
     (λ address at₁. thenRead (number image at₁)
@@ -29,7 +29,7 @@ readCell image words types before at =
     (λ n at₃. got (record { address = address; held = cell value (getD types n Int) }) at₃)))
 
 -- `left` cells behind the address `before`
-unfoldable pub readCells : (image : List ℕ) (words : ℕ) (types : List Kind) (left before at : ℕ) → Reading (List Placed)
+unfoldable pub readCells : (image : List ℕ) (words : ℕ) (types : List Kind) (left before at : ℕ) → Parsed (List Placed)
 readCells image words types zero before at = got [] at
 readCells image words types (suc left) before at =
     thenRead (readCell image words types before at)

@@ -18,5 +18,5 @@ abbrev pub thenFill : {A B : Type 0} → Filled A → (A → List ℕ → Filled
 thenFill f go = go (f .result) (f .table)
 
 -- row i of a table whose rows have that width; where the table has no room for the whole row nothing changes
-unfoldable pub stored : (width : ℕ) (t : List ℕ) (i : ℕ) (row : List ℕ) → List ℕ
-stored width t i row = choose (ltb i (length t / width)) (λ _. sets t (width * i) row) (λ _. t)
+unfoldable pub rowStored : (width : ℕ) (t : List ℕ) (i : ℕ) (row : List ℕ) → List ℕ
+rowStored width t i row = choose (ltb i (length t / width)) (λ _. sets t (width * i) row) (λ _. t)

@@ -1,7 +1,7 @@
 -- What a reader must believe about images, in the order of "The image": how parts are read one after another, the tables, the
 -- cells, the expression, and the whole; how it stands in lent tables of numbers; and what the code answers and leaves in those tables.
 pub mod Content
-pub mod Reading
+pub mod Parsing
 pub mod Tables
 pub mod Cells
 pub mod Nodes

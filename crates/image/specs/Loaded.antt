@@ -8,7 +8,7 @@ use Rattle.choice.specs.Choice.{choose}
 use Rattle.calculus.specs.declared.Fault.the-variants as fault
 use Rattle.calculus.specs.Expr.{nodes}
 use Rattle.image.specs.Content.{Content}
-use Rattle.image.specs.Reading.{Reading, got, refused}
+use Rattle.image.specs.Parsing.{Parsed, got, refused}
 use Rattle.image.specs.Answers.{refusal}
 use Rattle.image.specs.Tabling.{FrontFilled, frontInto}
 use Rattle.image.specs.Filling.{expressionInto}
@@ -22,34 +22,34 @@ use Rattle.image.specs.declared.Loading.{Loading}
 use Rattle.image.specs.declared.Loading.the-variants.{Loaded, Refused}
 
 -- the answer and the tables
-pub record Lent : Type 0 where
+pub record LoadedTables : Type 0 where
   pub result : Loading
   pub structs : List ℕ
   pub types : List ℕ
   pub cells : List ℕ
   pub nodes : List ℕ
 
-abbrev pub lent : Loading → (structs types cells nodes : List ℕ) → Lent
-lent r ss ts cs ns = record { result = r; structs = ss; types = ts; cells = cs; nodes = ns }
+abbrev pub loadedTables : Loading → (structs types cells nodes : List ℕ) → LoadedTables
+loadedTables r ss ts cs ns = record { result = r; structs = ss; types = ts; cells = cs; nodes = ns }
 
 abbrev pub sizes : Format → (structs types cells nodes : ℕ) → Sizes
 sizes m S T C N = record { format = m; structs = S; types = T; cells = C; nodes = N }
 
 -- behind the expression; bytes there are fault 8
-abbrev pub exprAfter : (image : List ℕ) (m : Format) (S T C : ℕ) → FrontFilled → Expression → List ℕ → Lent
+abbrev pub exprAfter : (image : List ℕ) (m : Format) (S T C : ℕ) → FrontFilled → Expression → List ℕ → LoadedTables
 exprAfter image m S T C f (expression.Read next count) ns =
     choose (ltb next (length image))
-    (λ _. lent (Refused (refusal fault.Behind next)) (f .structs) (f .types) (f .cells) ns)
-    (λ _. lent (Loaded (sizes m S (T + 1) C count)) (f .structs) (f .types) (f .cells) ns)
-exprAfter image m S T C f (expression.Refused q) ns = lent (Refused q) (f .structs) (f .types) (f .cells) ns
+    (λ _. loadedTables (Refused (refusal fault.Behind next)) (f .structs) (f .types) (f .cells) ns)
+    (λ _. loadedTables (Loaded (sizes m S (T + 1) C count)) (f .structs) (f .types) (f .cells) ns)
+exprAfter image m S T C f (expression.Refused q) ns = loadedTables (Refused q) (f .structs) (f .types) (f .cells) ns
 
 -- behind the tables and the cells
-abbrev pub frontAfter : (image : List ℕ) → Opening → FrontFilled → List ℕ → Lent
+abbrev pub frontAfter : (image : List ℕ) → Opening → FrontFilled → List ℕ → LoadedTables
 frontAfter image (front.Read m S T C at) f ns =
     exprAfter image m S T C f (expressionInto image (take (T + 1) (f .types)) S at ns .result) (expressionInto image (take (T + 1) (f .types)) S at ns .table)
-frontAfter image (front.Refused q) f ns = lent (Refused q) (f .structs) (f .types) (f .cells) ns
+frontAfter image (front.Refused q) f ns = loadedTables (Refused q) (f .structs) (f .types) (f .cells) ns
 
-unfoldable pub loadInto : (words : ℕ) (image : List ℕ) (structs types cells nodes : List ℕ) → Lent
+unfoldable pub loadInto : (words : ℕ) (image : List ℕ) (structs types cells nodes : List ℕ) → LoadedTables
 loadInto words image ss ts cs ns = frontAfter image (frontInto words image ss ts cs .result) (frontInto words image ss ts cs) ns
 
 -- the sizes of a content
@@ -57,6 +57,6 @@ abbrev pub sizesOf : Content → Sizes
 sizesOf c = sizes (c .format) (length (c .tables .structs)) (length (c .tables .types)) (length (c .cells)) (nodes (c .expr))
 
 -- what is answered of a content, or of its refusal
-abbrev pub loading : Reading Content → Loading
+abbrev pub loading : Parsed Content → Loading
 loading (got c next) = Loaded (sizesOf c)
 loading (refused f p) = Refused (refusal f p)

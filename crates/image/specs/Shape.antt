@@ -32,11 +32,11 @@ pub data Scoped : ℕ → Expr → Type 0 where
 pub data KnownKind (t : Tables) : Kind → Type 0 where
   known-kind : {κ : Kind} (n : ℕ) → n < length (t .types) → κ ≡ getD (t .types) n Int → KnownKind t κ
 
--- a target whose numbers are known
-pub data KnownTarget (t : Tables) : Target → Type 0 where
-  known-word : {n : ℕ} → n < length (t .types) → KnownTarget t (toWord n)
-  known-struct : {s : ℕ} → s < length (t .structs) → KnownTarget t (toStruct s)
-  known-array : {k n : ℕ} → k < 65536 → n < length (t .types) → KnownTarget t (toArray k n)
+-- a target whose numbers are known: the structs are those below S, the word types those below n
+pub data KnownTarget (S n : ℕ) : Target → Type 0 where
+  to-word : {i : ℕ} → i < n → KnownTarget S n (toWord i)
+  to-struct : {s : ℕ} → s < S → KnownTarget S n (toStruct s)
+  to-array : {k i : ℕ} → k < 65536 → i < n → KnownTarget S n (toArray k i)
 
 pub data KnownOne (t : Tables) : One → Type 0 where
   known-unchecked : KnownOne t unchecked
@@ -48,7 +48,7 @@ pub data KnownOne (t : Tables) : One → Type 0 where
 pub data Known (t : Tables) : Expr → Type 0 where
   known-lit : {n : ℕ} {κ : Kind} → n < 2 ^ 32 → KnownKind t κ → Known t (lit n κ)
   known-var : {k : ℕ} → Known t (var k)
-  known-malloc : {ω : Target} → KnownTarget t ω → Known t (malloc ω)
+  known-malloc : {ω : Target} → KnownTarget (length (t .structs)) (length (t .types)) ω → Known t (malloc ω)
   known-bind : {a b : Expr} → Known t a → Known t b → Known t (bind a b)
   known-one : {o : One} {e : Expr} → KnownOne t o → Known t e → Known t (one o e)
   known-two : {o : Two} {a b : Expr} → Known t a → Known t b → Known t (two o a b)

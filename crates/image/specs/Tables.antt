@@ -10,17 +10,17 @@ use Rattle.cells.specs.Same.{sameKind}
 use Rattle.cells.specs.declared.Kind.{Kind}
 use Rattle.calculus.specs.Expr.{Target, toWord, toStruct, toArray, pointer}
 use Rattle.calculus.specs.declared.Fault.the-variants as fault
-use Rattle.image.specs.Reading.{Reading, got, refused, thenRead, below, several}
+use Rattle.image.specs.Parsing.{Parsed, got, refused, thenRead, below, several}
 
 -- "For each struct: its field count, 1 to 16, and the word type number of each field, 0 to T."
-unfoldable pub readStruct : (image : List ℕ) (T at : ℕ) → Reading (List ℕ)
+unfoldable pub readStruct : (image : List ℕ) (T at : ℕ) → Parsed (List ℕ)
 readStruct image T at =
     thenRead (below fault.Limit 17 image at)
     (λ count next. choose (eqb count 0) (λ _. refused fault.Limit at) (λ _. several (below fault.Unknown (suc T) image) count next))
 
 -- "A target is 0 and a word type number; or 1 and a struct number; or 2, an element count 0 to 65,535 and a word type number." The word
 -- types known are those below `known`, the structs those below S.
-unfoldable pub readTarget : (image : List ℕ) (S known at : ℕ) → Reading Target
+unfoldable pub readTarget : (image : List ℕ) (S known at : ℕ) → Parsed Target
 readTarget image S known at =
     thenRead (below fault.Unknown 3 image at)
     (λ kind next.
@@ -31,7 +31,7 @@ readTarget image S known at =
 
 -- "mode (0 checked, 1 unchecked), then a target". "In the type list a target's word type number is below the entry's own; another counts
 -- as unknown."
-unfoldable pub readEntry : (image : List ℕ) (S own at : ℕ) → Reading Kind
+unfoldable pub readEntry : (image : List ℕ) (S own at : ℕ) → Parsed Kind
 readEntry image S own at =
     thenRead (below fault.Unknown 2 image at)
     (λ mode next. thenRead (readTarget image S own next) (λ ω at₁. got (pointer (modeOf mode) ω) at₁))
@@ -42,7 +42,7 @@ isAmong κ (τ ∷ τs) = either (sameKind κ τ) (isAmong κ τs)
 
 -- "For each pointer type, numbered 1 to T": `left` more behind those that were read. "No two entries are equal, so equal types have equal
 -- numbers."
-unfoldable pub readTypes : (image : List ℕ) (S left : ℕ) (types : List Kind) (at : ℕ) → Reading (List Kind)
+unfoldable pub readTypes : (image : List ℕ) (S left : ℕ) (types : List Kind) (at : ℕ) → Parsed (List Kind)
 readTypes image S zero types at = got types at
 readTypes image S (suc left) types at =
     thenRead (readEntry image S (length types) at)

@@ -9,11 +9,11 @@ use Rattle.choice.specs.Choice.{choose, either}
 use Rattle.cells.specs.Code.{packed}
 use Rattle.calculus.specs.declared.Fault.{Fault}
 use Rattle.calculus.specs.declared.Fault.the-variants as fault
-use Rattle.image.specs.Reading.{Reading, got, refused, thenRead, number, below}
+use Rattle.image.specs.Parsing.{Parsed, got, refused, thenRead, number, below}
 use Rattle.image.specs.Tables.{readEntry}
 use Rattle.image.specs.Cells.{readAddress}
 use Rattle.image.specs.Answers.{refusal, limited, mapped}
-use Rattle.image.specs.Filled.{Filled, filled, stored}
+use Rattle.image.specs.Filled.{Filled, filled, rowStored}
 use Rattle.calculus.specs.declared.Refusal.{Refusal}
 use Rattle.image.specs.Image.{readFormat}
 use Rattle.image.specs.declared.Format.{Format}
@@ -34,19 +34,19 @@ abbrev pub refusedAt : Fault → ℕ → Passed
 refusedAt f p = Refused (refusal f p)
 
 -- what is answered of a part that was read
-abbrev pub passed : {A : Type 0} → Reading A → Passed
+abbrev pub passed : {A : Type 0} → Parsed A → Passed
 passed (got a next) = To next
 passed (refused f p) = refusedAt f p
 
 -- go on behind what was read; where it is refused the table stays as it is
-abbrev pub onRead : {A : Type 0} → Reading A → List ℕ → (A → ℕ → Filled Passed) → Filled Passed
+abbrev pub onRead : {A : Type 0} → Parsed A → List ℕ → (A → ℕ → Filled Passed) → Filled Passed
 onRead (got a next) t go = go a next
 onRead (refused f p) t go = filled (refusedAt f p) t
 
 -- go on behind a part that wrote the table
-abbrev pub onward : Passed → List ℕ → (ℕ → List ℕ → Filled Passed) → Filled Passed
-onward (To next) t go = go next t
-onward (Refused q) t go = filled (Refused q) t
+abbrev pub onFilled : Passed → List ℕ → (ℕ → List ℕ → Filled Passed) → Filled Passed
+onFilled (To next) t go = go next t
+onFilled (Refused q) t go = filled (Refused q) t
 
 -- go by an answer: a refusal, or what it tells
 abbrev pub onPassed : {A : Type 0} → Passed → (Refusal → A) → (ℕ → A) → A
@@ -75,7 +75,7 @@ structInto image known to at t =
 unfoldable pub structsInto : (image : List ℕ) (known left to at : ℕ) → List ℕ → Filled Passed
 structsInto image known zero to at t = filled (To at) t
 structsInto image known (suc left) to at t =
-    onward (structInto image known to at t .result) (structInto image known to at t .table)
+    onFilled (structInto image known to at t .result) (structInto image known to at t .table)
     (λ next t′. structsInto image known left (to + 17) next t′)
 
 -- the code is among these
@@ -101,20 +101,20 @@ pub record CellRow : Type 0 where
 abbrev pub cellRow : (address value number : ℕ) → CellRow
 cellRow address value n = record { address = address; value = value; number = n }
 
-unfoldable pub readRow : (image : List ℕ) (words known before at : ℕ) → Reading CellRow
+unfoldable pub readRow : (image : List ℕ) (words known before at : ℕ) → Parsed CellRow
 readRow image words known before at =
     thenRead (readAddress image words before at)
     (λ address at₁. thenRead (number image at₁)
     (λ value at₂. thenRead (below fault.Unknown known image at₂)
     (λ n at₃. got (cellRow address value n) at₃)))
 
-abbrev pub celled : Reading CellRow → Celled
+abbrev pub celled : Parsed CellRow → Celled
 celled (got c next) = cell.Cell (c .address) (c .value) (c .number) next
 celled (refused f p) = cell.Refused (refusal f p)
 
 -- the table with a cell in row i
 abbrev pub cellSet : List ℕ → (i address value code : ℕ) → List ℕ
-cellSet t i address value code = stored 3 t i (address ∷ value ∷ code ∷ [])
+cellSet t i address value code = rowStored 3 t i (address ∷ value ∷ code ∷ [])
 
 -- `left` cells behind the address `before`, the first of them in row i
 unfoldable pub cellsInto : (image : List ℕ) (words : ℕ) (types : List ℕ) (known left before i at : ℕ) → List ℕ → Filled Passed
@@ -143,14 +143,14 @@ pub record TwoCounts : Type 0 where
 abbrev pub twoCounts : (structs types : ℕ) → TwoCounts
 twoCounts S T = record { structs = S; types = T }
 
-unfoldable pub countsAt : (image : List ℕ) (at : ℕ) → Reading TwoCounts
+unfoldable pub countsAt : (image : List ℕ) (at : ℕ) → Parsed TwoCounts
 countsAt image at =
     thenRead (below fault.Limit 33 image at)
     (λ S at₁. thenRead (below fault.Limit 256 image at₁) (λ T at₂. got (twoCounts S T) at₂))
 
-abbrev pub counted : Reading TwoCounts → Counted
-counted (got c next) = both.Tables (c .structs) (c .types) next
-counted (refused f p) = both.Refused (refusal f p)
+abbrev pub countsAnswer : Parsed TwoCounts → Counted
+countsAnswer (got c next) = both.Tables (c .structs) (c .types) next
+countsAnswer (refused f p) = both.Refused (refusal f p)
 
 abbrev pub onCounted : {A : Type 0} → Counted → (Refusal → A) → (ℕ → ℕ → ℕ → A) → A
 onCounted (both.Tables S T next) stop go = go S T next
@@ -177,7 +177,7 @@ structsAfter image S T ts f =
 -- the counts and both tables; type 0 is int
 unfoldable pub tablesInto : (image : List ℕ) (at : ℕ) (structs types : List ℕ) → TablesFilled
 tablesInto image at ss ts =
-    onCounted (counted (countsAt image at))
+    onCounted (countsAnswer (countsAt image at))
     (λ q. tabled (both.Refused q) ss ts)
     (λ S T next. structsAfter image S T ts (structsInto image (T + 1) S 0 next ss))
 
@@ -202,7 +202,7 @@ tablesAfter words image cs m f =
     (λ S T next. cellsAfter m S T (f .structs) (f .types) (placedInto image words (f .types) (T + 1) next cs))
 
 -- what is answered of the format, and how to go on by that
-abbrev pub formatted : Reading Format → Formatted
+abbrev pub formatted : Parsed Format → Formatted
 formatted (got m next) = format.Read m next
 formatted (refused f p) = format.Refused (refusal f p)
 

@@ -4,7 +4,7 @@ ghost use mathlib.Core.Path.{_≡_};
 ghost use lib.ListN.{take};
 ghost use Rattle.image.specs.Filled.{filled};
 ghost use Rattle.image.specs.Filling.{expressionInto};
-ghost use Rattle.image.specs.Loaded.{lent, loadInto};
+ghost use Rattle.image.specs.Loaded.{loadedTables, loadInto};
 use crate::Expression;
 use crate::Loading;
 use crate::Opening;
@@ -24,7 +24,7 @@ pub fn load(
     cells: &mut [u64],
     nodes: &mut [u64],
 ) -> Loading
-    ensures { λ r. ⌜ lent r (now (structs .exit)) (now (types .exit)) (now (cells .exit)) (now (nodes .exit)) ≡ loadInto words (now (image .entry)) (now (structs .entry)) (now (types .entry)) (now (cells .entry)) (now (nodes .entry)) ⌝ }
+    ensures { λ r. ⌜ loadedTables r (now (structs .exit)) (now (types .exit)) (now (cells .exit)) (now (nodes .exit)) ≡ loadInto words (now (image .entry)) (now (structs .entry)) (now (types .entry)) (now (cells .entry)) (now (nodes .entry)) ⌝ }
 {
     match read_front(structs, types, cells, image, words as u64) {
         Opening::Read {

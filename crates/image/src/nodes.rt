@@ -2,9 +2,9 @@
 ghost use Prim.Native.Nat.{_+_, _<_, _≤_};
 ghost use mathlib.Core.Path.{_≡_};
 ghost use Rattle.image.specs.Answers.{limited};
-ghost use Rattle.image.specs.Reading.{number};
+ghost use Rattle.image.specs.Parsing.{number};
 ghost use Rattle.image.specs.Filled.{filled};
-ghost use Rattle.image.specs.Filling.{rowed, argumentRow, kindRow, written, kindCode, literal, lineOf, cut, headInto, nodeInto, expressionInto};
+ghost use Rattle.image.specs.Filling.{rowed, argumentRow, kindRow, written, kindCode, literal, lineOf, tooDeep, headInto, nodeInto, expressionInto};
 ghost use Rattle.image.specs.declared.NodeRow.the-variants.{Row};
 use crate::Expression;
 use crate::Limited;
@@ -95,7 +95,7 @@ fn read_node(
 
 // A node that is too deep: its code is read, since a fault of the number itself goes first.
 fn too_deep(image: &[u8], at: usize) -> Expression
-    ensures { λ r. ⌜ r ≡ cut at (number (now (image .entry)) at) ⌝ }
+    ensures { λ r. ⌜ r ≡ tooDeep at (number (now (image .entry)) at) ⌝ }
 {
     match read_limited(image, at) {
         Limited::Value { value, next } => Expression::Refused(Refusal {

@@ -2,7 +2,7 @@
 // of two numbers.
 ghost use Prim.Native.Nat.{min};
 ghost use mathlib.Core.Path.{_≡_};
-ghost use Rattle.image.specs.Reading.{number, below};
+ghost use Rattle.image.specs.Parsing.{number, below};
 ghost use Rattle.image.specs.Answers.{limited};
 use crate::Limited;
 use calculus::Fault;

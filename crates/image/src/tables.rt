@@ -1,7 +1,7 @@
 // The counts of structs and pointer types, and the tables of both.
 ghost use Prim.Native.Nat.{_+_};
 ghost use mathlib.Core.Path.{_≡_};
-ghost use Rattle.image.specs.Tabling.{counted, countsAt, tabled, tablesInto};
+ghost use Rattle.image.specs.Tabling.{countsAnswer, countsAt, tabled, tablesInto};
 use crate::Counted;
 use crate::Limited;
 use crate::Passed;
@@ -40,7 +40,7 @@ pub fn read_tables(structs: &mut [u64], types: &mut [u64], image: &[u8], at: usi
 
 // The two counts at `at`.
 fn read_counts(image: &[u8], at: usize) -> Counted
-    ensures { λ r. ⌜ r ≡ counted (countsAt (now (image .entry)) at) ⌝ }
+    ensures { λ r. ⌜ r ≡ countsAnswer (countsAt (now (image .entry)) at) ⌝ }
 {
     match read_below(image, at, 33, Fault::Limit) {
         Limited::Value {

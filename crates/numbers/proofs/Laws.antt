@@ -99,14 +99,14 @@ pub number-32 : (image : List ℕ) (at value next : ℕ) → numberAt image at �
 number-32 image at value next e = number-sound bits32 image at value next e .fits
 
 -- the answer of a reading behind `k` bytes, with its places counted from the front
-abbrev pub carried : ℕ → Number → Number
-carried k (Value value next) = Value value (k + next)
-carried k (Ends place) = Ends (k + place)
-carried k (Unfit place) = Unfit (k + place)
+abbrev pub shifted : ℕ → Number → Number
+shifted k (Value value next) = Value value (k + next)
+shifted k (Ends place) = Ends (k + place)
+shifted k (Unfit place) = Unfit (k + place)
 
--- what is carried on both sides of a choice is carried in the choice
-carry : (k : ℕ) (t : Bool) (a b a′ b′ : Unit {0} → Number) → carried k (a tt) ≡ a′ tt → carried k (b tt) ≡ b′ tt
-    → carried k (choose t a b) ≡ choose t a′ b′
+-- what is shifted on both sides of a choice is shifted in the choice
+carry : (k : ℕ) (t : Bool) (a b a′ b′ : Unit {0} → Number) → shifted k (a tt) ≡ a′ tt → shifted k (b tt) ≡ b′ tt
+    → shifted k (choose t a b) ≡ choose t a′ b′
 carry k true a b a′ b′ p q = p
 carry k false a b a′ b′ p q = q
 
@@ -128,7 +128,7 @@ inside-test k at image = go (ltb at (length (drop k image))) refl
 ends-behind : (k : ℕ) (image : List ℕ) → k ≤ length image → Ends (k + length (drop k image)) ≡ Ends (length image)
 ends-behind k image h = ap Ends (omega (arith, length-drop k image))
 
-last-behind : (k first at weight sum b : ℕ) → carried k (lastGroup first at weight sum b) ≡ lastGroup (k + first) (k + at) weight sum b
+last-behind : (k first at weight sum b : ℕ) → shifted k (lastGroup first at weight sum b) ≡ lastGroup (k + first) (k + at) weight sum b
 unfolding lastGroup
 last-behind k first at weight sum b =
     carry k (eqb b 0) _ _ _ _
@@ -136,7 +136,7 @@ last-behind k first at weight sum b =
     (rw (← add-assoc k at 1))
 
 behind : (k : ℕ) (top : ℕ) (image : List ℕ) (first more at weight sum : ℕ) → k ≤ length image
-    → carried k (groups top (drop k image) first more at weight sum) ≡ groups top image (k + first) more (k + at) weight sum
+    → shifted k (groups top (drop k image) first more at weight sum) ≡ groups top image (k + first) more (k + at) weight sum
 unfolding groups
 behind k top image first zero at weight sum h =
     let b : ℕ = getD image (k + at) 0 in
@@ -155,5 +155,5 @@ behind k top image first (suc more) at weight sum h =
 
 -- Reading in the part behind `k` bytes is reading `k` bytes further on, with the places counted from the front.
 pub number-behind : (w : Width) (image : List ℕ) (k at : ℕ) → k ≤ length image
-    → carried k (numberOf w (drop k image) at) ≡ numberOf w image (k + at)
+    → shifted k (numberOf w (drop k image) at) ≡ numberOf w image (k + at)
 number-behind w image k at h = behind k (w .top) image at (w .more) at 1 0 h

@@ -1,6 +1,6 @@
 -- `image::front::read_format` answers the format that the definition reads: the test opens `readFormat`. Assumes nothing.
 use borrow.Author.Tests.{eq-eqb, ne-eqb}
-use Rattle.image.specs.Reading.{number}
+use Rattle.image.specs.Parsing.{number}
 use Rattle.image.specs.Image.{readFormat}
 use Rattle.image.proofs.Answered.{was-got, was-refused}
 use borrow.Author.Needs.{needs}

@@ -3,7 +3,7 @@
 use Prim.Native.Nat.{_+_}
 use native.Mathlib.Omega.{arith}
 use borrow.Author.Tests.{eq-eqb, ne-eqb, lt-ltb, le-ltb}
-use Rattle.image.specs.Reading.{number}
+use Rattle.image.specs.Parsing.{number}
 use Rattle.image.specs.Cells.{readAddress}
 use Rattle.image.proofs.Answered.{was-got, was-refused}
 use borrow.Author.Needs.{needs}

@@ -1,6 +1,6 @@
 -- `image::heap_cells::read_cell` answers the cell that the definition reads: address, value and word type number, in that order.
 -- Assumes nothing.
-use Rattle.image.specs.Reading.{number, below}
+use Rattle.image.specs.Parsing.{number, below}
 use Rattle.image.specs.Cells.{readAddress}
 use Rattle.image.specs.Tabling.{readRow}
 use Rattle.image.proofs.Answered.{was-got, was-refused}

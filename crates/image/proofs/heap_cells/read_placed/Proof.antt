@@ -1,7 +1,7 @@
 -- `image::heap_cells::read_placed` fills the table as `placedInto` says: the count is at most 4,096, and the cells follow.
 -- Assumes nothing.
 use native.Mathlib.Omega.{arith}
-use Rattle.image.specs.Reading.{below}
+use Rattle.image.specs.Parsing.{below}
 use Rattle.image.specs.Tabling.{placedInto}
 use Rattle.image.proofs.Answered.{was-got, was-refused}
 use Rattle.image.proofs.Numbers.{below-value}

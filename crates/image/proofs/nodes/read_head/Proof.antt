@@ -1,7 +1,7 @@
 -- `image::nodes::read_head` reads a node without its parts into its row, as `headInto` says: the code's answer is opened first, then the
 -- test of the limit, then the row that was read. Assumes nothing.
 use borrow.Author.Tests.{le-leb, lt-leb}
-use Rattle.image.specs.Reading.{number}
+use Rattle.image.specs.Parsing.{number}
 use Rattle.image.specs.Filling.{lineOf, headInto}
 use Rattle.image.proofs.Answered.{was-got, was-refused}
 use Rattle.image.proofs.Lines.{was-line, no-line}

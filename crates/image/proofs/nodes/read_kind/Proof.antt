@@ -1,5 +1,5 @@
 -- `image::nodes::read_kind` answers the code of the word type whose number is read. Assumes nothing.
-use Rattle.image.specs.Reading.{below}
+use Rattle.image.specs.Parsing.{below}
 use Rattle.image.specs.Filling.{kindCode}
 use Rattle.image.proofs.Answered.{was-got, was-refused}
 use borrow.Author.Needs.{needs}

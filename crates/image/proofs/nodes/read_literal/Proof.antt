@@ -1,5 +1,5 @@
 -- `image::nodes::read_literal` answers the row of a literal: its value and its word type. Assumes nothing.
-use Rattle.image.specs.Reading.{number}
+use Rattle.image.specs.Parsing.{number}
 use Rattle.image.proofs.Answered.{was-got, was-refused}
 use Rattle.image.specs.Filling.{kindCode, literal}
 use Rattle.image.specs.declared.Parts.the-variants.{Leaf}

@@ -1,6 +1,6 @@
 -- `image::nodes::read_row` answers the row that `lineOf` reads: each arm of the match opens the definition by the operation. Assumes nothing.
 use Rattle.image.specs.Filling.{kindCode, lineOf}
-use Rattle.image.specs.Reading.{number, below}
+use Rattle.image.specs.Parsing.{number, below}
 use Rattle.image.specs.Tables.{readTarget}
 use Rattle.image.specs.Answers.{mapped, pointerCode}
 use Rattle.image.specs.declared.Parts.the-variants.{Leaf, One}

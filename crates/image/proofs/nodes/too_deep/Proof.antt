@@ -1,5 +1,5 @@
 -- `image::nodes::too_deep` refuses a node that is too deep: by the fault of its code, or else by fault 4. Assumes nothing.
-use Rattle.image.specs.Reading.{number}
+use Rattle.image.specs.Parsing.{number}
 use Rattle.image.proofs.Answered.{was-got, was-refused}
 use borrow.Author.Needs.{needs}
 use Rattle.image.proofs.nodes.too_deep.Statement.{statement}

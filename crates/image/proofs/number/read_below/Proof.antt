@@ -1,6 +1,6 @@
 -- `image::number::read_below` answers the number below a limit that the definition reads: the test opens `below`. Assumes nothing.
 use borrow.Author.Tests.{lt-ltb, le-ltb}
-use Rattle.image.specs.Reading.{number, below}
+use Rattle.image.specs.Parsing.{number, below}
 use Rattle.image.proofs.Answered.{was-got, was-refused}
 use borrow.Author.Needs.{needs}
 use Rattle.image.proofs.number.read_below.Statement.{statement}

@@ -1,6 +1,6 @@
 -- `image::number::read_limited` answers the number that the definition reads: each case of `numberAt` is one of `asReading`.
 -- Assumes nothing.
-use Rattle.image.specs.Reading.{number}
+use Rattle.image.specs.Parsing.{number}
 use borrow.Author.Needs.{needs}
 use Rattle.image.proofs.number.read_limited.Statement.{statement}
 use Rattle.image.proofs.number.read_limited.Tie as tie

@@ -4,7 +4,7 @@ use mathlib.Core.Path.{refl}
 use Prim.Native.Nat.{_+_, _≤_}
 use native.Mathlib.Omega.{arith}
 use lib.ListN.{length-set}
-use Rattle.image.specs.Reading.{below}
+use Rattle.image.specs.Parsing.{below}
 use Rattle.image.specs.Tabling.{fieldsInto}
 use Rattle.image.proofs.Answered.{was-got, was-refused}
 use Rattle.image.proofs.Turns.{Going, is-suc, is-zero, ended, turned, fields-done, fields-turn, fields-refused}

@@ -1,5 +1,5 @@
 -- `image::tables::read_counts` answers the two counts that the definition reads. Assumes nothing.
-use Rattle.image.specs.Reading.{below}
+use Rattle.image.specs.Parsing.{below}
 use Rattle.image.specs.Tabling.{countsAt}
 use Rattle.image.proofs.Answered.{was-got, was-refused}
 use borrow.Author.Needs.{needs}

@@ -1,6 +1,6 @@
 -- `image::target::read_numbered` answers the code with the number in its place: the number is below 2^32, so the code fits. Assumes nothing.
 use native.Mathlib.Omega.{arith}
-use Rattle.image.specs.Reading.{below}
+use Rattle.image.specs.Parsing.{below}
 use Rattle.image.proofs.Answered.{was-got, was-refused}
 use Rattle.image.proofs.Numbers.{below-value}
 use borrow.Author.Needs.{needs}

@@ -2,7 +2,7 @@
 -- together from its numbers. Assumes nothing.
 use mathlib.Core.Path.{_∙_}
 use borrow.Author.Tests.{ne-eqb}
-use Rattle.image.specs.Reading.{below}
+use Rattle.image.specs.Parsing.{below}
 use Rattle.image.specs.Tables.{readTarget}
 use Rattle.image.specs.Answers.{readArray}
 use Rattle.image.proofs.Answered.{was-got, was-refused}

@@ -2,7 +2,7 @@
 -- Assumes nothing.
 use mathlib.Core.Path.{_∙_}
 use native.Mathlib.Omega.{arith}
-use Rattle.image.specs.Reading.{below}
+use Rattle.image.specs.Parsing.{below}
 use Rattle.image.specs.Tables.{readEntry, readTarget}
 use Rattle.image.proofs.Answered.{was-got, was-refused}
 use Rattle.image.proofs.Numbers.{below-value}
