@@ -11,7 +11,9 @@ use Rattle.cells.specs.declared.Kind.{Kind}
 use Rattle.cells.specs.declared.Kind.the-variants.{Int, Word, Struct, Array}
 use Rattle.calculus.specs.Answers.{faultNumber, endValue, endKind}
 use Rattle.calculus.specs.declared.End.{End}
-use Rattle.calculus.specs.declared.End.the-variants.{Value, Null, Bounds, Room, Stuck, More}
+use Rattle.calculus.specs.declared.End.the-variants.{Value, Halted, Stuck, More}
+use Rattle.calculus.specs.declared.Halt.{Halt}
+use Rattle.calculus.specs.declared.Halt.the-variants.{Null, Bounds, Room}
 use Rattle.answers.specs.declared.Answer.{Answer}
 use Rattle.answers.specs.declared.Answer.the-variants.{Refused, Ran}
 
@@ -35,11 +37,14 @@ spaced (w ∷ []) = w
 spaced (w ∷ w′ ∷ ws) = w ++ 32 ∷ spaced (w′ ∷ ws)
 
 -- "Ends are in small letters."
+abbrev pub haltWord : Halt → List ℕ
+haltWord Null = text "null"
+haltWord Bounds = text "bounds"
+haltWord Room = text "room"
+
 abbrev pub endWord : End → List ℕ
 endWord (Value c) = text "value"
-endWord Null = text "null"
-endWord Bounds = text "bounds"
-endWord Room = text "room"
+endWord (Halted h) = haltWord h
 endWord Stuck = text "stuck"
 endWord More = text "more"
 

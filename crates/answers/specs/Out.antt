@@ -16,16 +16,16 @@ outNumbers (Refused r) = 0 ∷ faultNumber (r .fault) ∷ r .place ∷ 0 ∷ 0 �
 outNumbers (Ran o) = 1 ∷ endNumber (o .end) ∷ endValue (o .end) ∷ packed (endKind (o .end)) ∷ o .steps ∷ o .first ∷ []
 
 -- whether numbers were written, and the lent numbers afterwards
-pub record Told : Type 0 where
+pub record Numbered : Type 0 where
   pub done : Bool
   pub out : List ℕ
 
-abbrev pub untold : List ℕ → Told
-untold ws = record { done = false; out = ws }
+abbrev pub unnumbered : List ℕ → Numbered
+unnumbered ws = record { done = false; out = ws }
 
 -- six numbers at the front, the rest as it was; lent numbers that are fewer stay as they were
-abbrev pub toldSix : List ℕ → (six : List ℕ) → Told
-toldSix ws six = choose (ltb (length ws) 6) (λ _. untold ws) (λ _. record { done = true; out = six ++ drop 6 ws })
+abbrev pub numberedSix : List ℕ → (six : List ℕ) → Numbered
+numberedSix ws six = choose (ltb (length ws) 6) (λ _. unnumbered ws) (λ _. record { done = true; out = six ++ drop 6 ws })
 
-abbrev pub told : List ℕ → Answer → Told
-told ws answer = toldSix ws (outNumbers answer)
+abbrev pub numbered : List ℕ → Answer → Numbered
+numbered ws answer = numberedSix ws (outNumbers answer)

@@ -1,6 +1,6 @@
 -- The reading that an answer gives.
 use Rattle.calculus.specs.declared.End.{End}
-use Rattle.calculus.specs.declared.End.the-variants.{Value, Null, Bounds, Room, Stuck, More}
+use Rattle.calculus.specs.declared.End.the-variants.{Value, Halted, Stuck, More}
 use Rattle.answers.specs.declared.Answer.{Answer}
 use Rattle.answers.specs.declared.Answer.the-variants.{Refused, Ran}
 use Rattle.answers.specs.declared.Reading.{Reading}
@@ -9,9 +9,7 @@ use Rattle.answers.specs.declared.Reading.the-variants.{Number, Nothing}
 -- "a Value gives its number as the reading. Every other end gives none."
 abbrev pub endReading : End → Reading
 endReading (Value c) = Number (c .value)
-endReading Null = Nothing
-endReading Bounds = Nothing
-endReading Room = Nothing
+endReading (Halted h) = Nothing
 endReading Stuck = Nothing
 endReading More = Nothing
 

@@ -14,16 +14,16 @@ pub enum Reading {
     Nothing,
 }
 
-mod cases;
+mod ends;
 mod line;
 mod out;
 mod readings;
 mod widths;
 
-pub use cases::end_kind;
-pub use cases::end_number;
-pub use cases::end_value;
-pub use cases::fault_number;
+pub use ends::end_kind;
+pub use ends::end_number;
+pub use ends::end_value;
+pub use ends::fault_number;
 pub use line::write_line;
 pub use out::write_numbers;
 pub use readings::reading_of;

@@ -6,16 +6,17 @@ ghost use mathlib.Core.List.{[], _∷_, _++_};
 ghost use lib.ListN.{length, set};
 ghost use lib.Seq.{sets};
 ghost use Rattle.calculus.specs.Answers.{endValue, endKind};
-ghost use Rattle.answers.specs.Line.{decimal, spaced, modeLetter, kindWord, endWord, line};
+ghost use Rattle.answers.specs.Line.{decimal, spaced, modeLetter, kindWord, haltWord, endWord, line};
 ghost use Rattle.answers.specs.Written.{Written};
 use crate::Answer;
-use crate::cases::end_kind;
-use crate::cases::end_value;
-use crate::cases::fault_number;
+use crate::ends::end_kind;
+use crate::ends::end_value;
+use crate::ends::fault_number;
 use crate::widths::byte;
 use crate::widths::short;
 use crate::widths::wide;
 use calculus::End;
+use calculus::Halt;
 use cells::Kind;
 use cells::Mode;
 
@@ -72,11 +73,21 @@ fn put_end_word(out: &mut [u8], at: usize, end: End) -> usize
 {
     match end {
         End::Value(_) => put_text(out, at, b"value"),
-        End::Null => put_text(out, at, b"null"),
-        End::Bounds => put_text(out, at, b"bounds"),
-        End::Room => put_text(out, at, b"room"),
+        End::Halted(halt) => put_halt_word(out, at, halt),
         End::Stuck => put_text(out, at, b"stuck"),
         End::More => put_text(out, at, b"more"),
+    }
+}
+
+fn put_halt_word(out: &mut [u8], at: usize, halt: Halt) -> usize
+    requires { ⌜ at < 1000 ⌝ }
+    ensures { λ r. ⌜ Written (now (out .entry)) at (haltWord halt) r (now (out .exit)) ⌝ }
+    ensures { λ r. ⌜ r ≤ at + 6 ⌝ }
+{
+    match halt {
+        Halt::Null => put_text(out, at, b"null"),
+        Halt::Bounds => put_text(out, at, b"bounds"),
+        Halt::Room => put_text(out, at, b"room"),
     }
 }
 

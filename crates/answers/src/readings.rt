@@ -23,9 +23,7 @@ fn end_reading(end: End) -> Reading
 {
     match end {
         End::Value(cell) => Reading::Number(cell.value),
-        End::Null => Reading::Nothing,
-        End::Bounds => Reading::Nothing,
-        End::Room => Reading::Nothing,
+        End::Halted(_) => Reading::Nothing,
         End::Stuck => Reading::Nothing,
         End::More => Reading::Nothing,
     }

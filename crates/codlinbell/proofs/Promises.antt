@@ -17,40 +17,25 @@ use Rattle.calculus.specs.Run.{Result, run}
 use Rattle.calculus.specs.declared.Fault.{Fault}
 use Rattle.calculus.specs.declared.Refusal.{Refusal}
 use Rattle.calculus.specs.declared.End.{End}
-use Rattle.calculus.specs.declared.End.the-variants.{Value, Null, Bounds, Room, Stuck, More}
+use Rattle.calculus.specs.declared.End.the-variants.{Value, Halted, Stuck, More}
 use Rattle.calculus.specs.declared.Outcome.{Outcome}
 use Rattle.calculus.proofs.Apart.{differ}
 use Rattle.calculus.proofs.Accepted.{accepted}
-use Rattle.calculus.proofs.Counted.{Counts, counted}
-use Rattle.calculus.proofs.Refused.{FirstFault, refused-first}
-use Rattle.calculus.proofs.Blame.{Sized}
-use Rattle.calculus.proofs.Blameless.{GoodEnd, blameless}
+use Rattle.calculus.specs.Counts.{Counts, Allowed}
+use Rattle.calculus.specs.GoodEnd.{Sized}
+use Rattle.calculus.proofs.Counted.{counted, allowed}
+use Rattle.calculus.proofs.Refused.{refused-first}
+use Rattle.calculus.proofs.Blameless.{blameless}
 use Rattle.image.specs.Content.{Content, settingOf, heapOf}
 use Rattle.image.specs.Parsing as reading
 use Rattle.image.specs.Image.{readImage}
 use Rattle.codlinbell.proofs.Heaps.{heap-length}
-use Rattle.codlinbell.specs.Answered.{Answered, answered, refusal, ran, readThen, judgedThen, contentVerdict, contentRun}
+use Rattle.codlinbell.specs.Answered.{Answered, answered, readThen, judgedThen, contentVerdict, contentRun}
+use Rattle.codlinbell.specs.Promised.{settingIn, heapIn, Right, unread, untyped, runs, Blameless, StepsCounted, FromValue}
 use Rattle.answers.specs.Readings.{endReading, readingOf}
 use Rattle.answers.specs.declared.Reading.the-variants.{Number}
 use Rattle.answers.specs.declared.Answer.{Answer}
 use Rattle.answers.specs.declared.Answer.the-variants.{Refused, Ran}
-
--- The setting and the heap of a content over a lent heap.
-abbrev pub settingIn : List ℕ → Content → Setting
-settingIn ws c = settingOf (heapWords ws) (c .tables)
-
-abbrev pub heapIn : List ℕ → Content → Heap
-heapIn ws c = heapOf (heapWords ws) (c .cells)
-
--- Every image has one of three answers: it doesn't read; it reads, and a node is the first to fail; or it reads, the rules derive a
--- type for it over its own heap, and it is run by the stepping rules. On a refusal the lent numbers are as they were.
-pub data Right (image ws : List ℕ) (limit : ℕ) : Answered → Type 0 where
-  unread : {f : Fault} {p : ℕ} → readImage (heapWords ws) image ≡ reading.refused f p → Right image ws limit (refusal ws f p)
-  untyped : {c : Content} {next i : ℕ} {f : Fault} → readImage (heapWords ws) image ≡ reading.got c next
-      → FirstFault (settingIn ws c) (heapIn ws c) whole [] Checked 0 (c .expr) f i → Right image ws limit (refusal ws f i)
-  runs : {c : Content} {next : ℕ} {κ : Kind} → readImage (heapWords ws) image ≡ reading.got c next
-      → Typed (settingIn ws c) (heapIn ws c) whole [] Checked (c .expr) κ
-      → Right image ws limit (ran ws (run (settingIn ws c) limit (heapIn ws c) (c .expr)))
 
 module _ (image ws : List ℕ) (limit : ℕ) where
   judged-right : (c : Content) (next : ℕ) → readImage (heapWords ws) image ≡ reading.got c next
@@ -58,7 +43,7 @@ module _ (image ws : List ℕ) (limit : ℕ) where
   judged-right c next q (good κ) e = runs q (accepted (settingIn ws c) (heapIn ws c) (c .expr) κ .0 e)
   judged-right c next q (bad f i) e = untyped q (refused-first (settingIn ws c) (heapIn ws c) (c .expr) f i .0 e)
 
-  read-right : (r : reading.Reading Content) → readImage (heapWords ws) image ≡ r → Right image ws limit (readThen ws limit r)
+  read-right : (r : reading.Parsed Content) → readImage (heapWords ws) image ≡ r → Right image ws limit (readThen ws limit r)
   read-right (reading.got c next) q = judged-right c next q (contentVerdict ws c) refl
   read-right (reading.refused f p) q = unread q
 
@@ -72,19 +57,6 @@ pub sized : (ws : List ℕ) (c : Content) → Sized (settingIn ws c) (heapIn ws 
 sized ws c =
     let h : length (heapIn ws c) ≡ heapWords ws = heap-length (heapWords ws) (c .cells) in
     record { above = omega arith; within = omega arith; wide = omega arith }
-
--- What demand 3 promises of a run of the image's content.
-pub record Blameless (image ws : List ℕ) (o : Outcome) (final : List ℕ) : Type 0 where
-  pub content : Content
-  pub next : ℕ
-  pub reads : readImage (heapWords ws) image ≡ reading.got content next
-  -- the announced type
-  pub kind : Kind
-  pub announced : contentVerdict ws content ≡ good kind
-  -- the heap that the run leaves, in the lent numbers
-  pub heap : Heap
-  pub left : final ≡ lent heap ws
-  pub end-good : GoodEnd (settingIn ws content) heap kind (o .end)
 
 -- the same, of a content that reads and has a type
 run-blameless : (image ws : List ℕ) (limit : ℕ) (c : Content) (next : ℕ) (κ : Kind) → readImage (heapWords ws) image ≡ reading.got c next
@@ -117,27 +89,19 @@ pub never-to-blame : (image ws : List ℕ) (limit : ℕ) (o : Outcome) → answe
     → Blameless image ws o (answered image ws limit .heap)
 never-to-blame image ws limit o q z = right-blameless (answered-right image ws limit) o q z
 
--- What is promised of the steps of a run of the image's content.
-pub record Stepped (image ws : List ℕ) (limit : ℕ) (o : Outcome) : Type 0 where
-  pub content : Content
-  pub next : ℕ
-  pub reads : readImage (heapWords ws) image ≡ reading.got content next
-  pub few : o .steps ≤ operators (content .expr)
-  pub allowed : o .steps ≤ limit
-  pub all : (c : Cell) → o .end ≡ Value c → o .steps ≡ operators (content .expr)
-
 right-stepped : {image ws : List ℕ} {limit : ℕ} {a : Answered} → Right image ws limit a → (o : Outcome) → a .answer ≡ Ran o
-    → Stepped image ws limit o
+    → StepsCounted image ws limit o
 right-stepped (unread e) o q = differ cc
 right-stepped (untyped e f) o q = differ cc
 right-stepped {image} {ws} {limit} (runs {c} {next} e t) o q =
     let p : contentRun ws limit c .outcome ≡ o = cc in
-    let n : Counts limit (operators (c .expr)) (contentRun ws limit c) = counted (settingIn ws c) limit (heapIn ws c) (c .expr) in
-    subst (λ (o : Outcome). Stepped image ws limit o) p
-    (record { content = c; next = next; reads = e; few = n .few; allowed = n .allowed; all = n .all })
+    let n : Counts (operators (c .expr)) (contentRun ws limit c) = counted (settingIn ws c) limit (heapIn ws c) (c .expr) in
+    let l : Allowed limit (contentRun ws limit c) = allowed (settingIn ws c) limit (heapIn ws c) (c .expr) in
+    subst (λ (o : Outcome). StepsCounted image ws limit o) p
+    (record { content = c; next = next; reads = e; few = n .few; allowed = l .most; all = n .all })
 
 -- "If a run ends with Value, its steps equal the count of nodes of codes 2 to 9; no run takes more."
-pub steps-counted : (image ws : List ℕ) (limit : ℕ) (o : Outcome) → answered image ws limit .answer ≡ Ran o → Stepped image ws limit o
+pub steps-counted : (image ws : List ℕ) (limit : ℕ) (o : Outcome) → answered image ws limit .answer ≡ Ran o → StepsCounted image ws limit o
 steps-counted image ws limit o q = right-stepped (answered-right image ws limit) o q
 
 right-kept : {image ws : List ℕ} {limit : ℕ} {a : Answered} → Right image ws limit a → (r : Refusal) → a .answer ≡ Refused r → a .heap ≡ ws
@@ -150,20 +114,11 @@ pub refused-kept : (image ws : List ℕ) (limit : ℕ) (r : Refusal) → answere
     → answered image ws limit .heap ≡ ws
 refused-kept image ws limit r q = right-kept (answered-right image ws limit) r q
 
--- A reading is the number of a Value that a run ended with, and of nothing else.
-pub record FromValue (a : Answer) (n : ℕ) : Type 0 where
-  pub outcome : Outcome
-  pub kind : Kind
-  pub ran-it : a ≡ Ran outcome
-  pub value : outcome .end ≡ Value (cell n kind)
-
 end-read : (o : Outcome) (e : End) (n : ℕ) → o .end ≡ e → endReading e ≡ Number n → FromValue (Ran o) n
 end-read o (Value c) n q r =
     let p : c .value ≡ n = cc in
     record { outcome = o; kind = c .kind; ran-it = refl; value = q ∙ ap (λ (k : ℕ). Value (cell k (c .kind))) p }
-end-read o Null n q r = differ cc
-end-read o Bounds n q r = differ cc
-end-read o Room n q r = differ cc
+end-read o (Halted h) n q r = differ cc
 end-read o Stuck n q r = differ cc
 end-read o More n q r = differ cc
 

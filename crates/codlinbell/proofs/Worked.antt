@@ -8,7 +8,8 @@ use Rattle.cells.specs.declared.Kind.{Kind}
 use Rattle.cells.specs.declared.Kind.the-variants.{Int, Word, Struct, Array}
 use Rattle.calculus.specs.Setting.{cell}
 use Rattle.calculus.specs.declared.End.{End}
-use Rattle.calculus.specs.declared.End.the-variants.{Value, Null, Bounds, Room, Stuck, More}
+use Rattle.calculus.specs.declared.End.the-variants.{Value, Halted, Stuck, More}
+use Rattle.calculus.specs.declared.Halt.the-variants.{Null, Bounds, Room}
 use Rattle.calculus.specs.declared.Fault.{Fault}
 use Rattle.calculus.specs.declared.Fault.the-variants as fault
 use Rattle.choice.specs.Choice.{allFrom}
@@ -20,6 +21,7 @@ use Rattle.cells.specs.Free.{firstRun}
 use Rattle.cells.specs.Lent.{numbersOf}
 use Rattle.calculus.specs.Setting.{size, wordKind, checkedPointer, checkedEmpty}
 use Rattle.calculus.specs.Expr.{nodes}
+use Rattle.calculus.specs.Operations.{operationOf}
 use Rattle.calculus.specs.Literal.{wellLit, inScope}
 use Rattle.calculus.specs.Judge.{judge}
 use Rattle.calculus.specs.Steps.{step, sumRedex, wordThen, fieldRedex, zeroed, mallocRedex, replace}
@@ -67,9 +69,9 @@ table =
     -- P2 at limit 3
     ∷ record { image = P2; words = 16; limit = 3; stated = told More 3 0 }
     -- P3: P2, last two 03 00
-    ∷ row (0x01 ∷ 0x00 ∷ 0x00 ∷ 0x00 ∷ 0x02 ∷ 0x03 ∷ 0x02 ∷ 0x03 ∷ 0x00 ∷ 0x06 ∷ 0x08 ∷ 0x01 ∷ 0x00 ∷ 0x00 ∷ 0x03 ∷ 0x00 ∷ []) (told Bounds 4 0)
+    ∷ row (0x01 ∷ 0x00 ∷ 0x00 ∷ 0x00 ∷ 0x02 ∷ 0x03 ∷ 0x02 ∷ 0x03 ∷ 0x00 ∷ 0x06 ∷ 0x08 ∷ 0x01 ∷ 0x00 ∷ 0x00 ∷ 0x03 ∷ 0x00 ∷ []) (told (Halted Bounds) 4 0)
     -- P4: P2 at W = 2
-    ∷ record { image = P2; words = 2; limit = defaultLimit; stated = told Room 1 0 }
+    ∷ record { image = P2; words = 2; limit = defaultLimit; stated = told (Halted Room) 1 0 }
     -- P5
     ∷ row (0x01 ∷ 0x01 ∷ 0x01 ∷ 0x02 ∷ 0x00 ∷ 0x01 ∷ 0x00 ∷ 0x01 ∷ 0x00 ∷ 0x00 ∷ 0x02 ∷ 0x03 ∷ 0x01 ∷ 0x00 ∷ 0x07 ∷ 0x09 ∷ 0x01 ∷ 0x01 ∷ 0x00 ∷ 0x01 ∷ 0x00 ∷ []) (told (Value (cell 1 (Struct Checked 0))) 4 0)
     -- P6
@@ -77,11 +79,11 @@ table =
     -- P7: P6, second cell 01 01 00
     ∷ row (0x01 ∷ 0x01 ∷ 0x01 ∷ 0x02 ∷ 0x00 ∷ 0x01 ∷ 0x00 ∷ 0x01 ∷ 0x00 ∷ 0x02 ∷ 0x01 ∷ 0x00 ∷ 0x00 ∷ 0x01 ∷ 0x01 ∷ 0x00 ∷ 0x00 ∷ 0x01 ∷ 0x01 ∷ []) (refused fault.IllTyped 0)
     -- P8
-    ∷ row (0x01 ∷ 0x00 ∷ 0x01 ∷ 0x00 ∷ 0x00 ∷ 0x00 ∷ 0x00 ∷ 0x07 ∷ 0x00 ∷ 0x00 ∷ 0x01 ∷ 0x00 ∷ 0x07 ∷ 0x00 ∷ []) (told Null 1 0)
+    ∷ row (0x01 ∷ 0x00 ∷ 0x01 ∷ 0x00 ∷ 0x00 ∷ 0x00 ∷ 0x00 ∷ 0x07 ∷ 0x00 ∷ 0x00 ∷ 0x01 ∷ 0x00 ∷ 0x07 ∷ 0x00 ∷ []) (told (Halted Null) 1 0)
     -- P9
-    ∷ row (0x01 ∷ 0x00 ∷ 0x01 ∷ 0x00 ∷ 0x02 ∷ 0x00 ∷ 0x00 ∷ 0x00 ∷ 0x06 ∷ 0x00 ∷ 0x05 ∷ 0x01 ∷ []) (told Bounds 1 0)
+    ∷ row (0x01 ∷ 0x00 ∷ 0x01 ∷ 0x00 ∷ 0x02 ∷ 0x00 ∷ 0x00 ∷ 0x00 ∷ 0x06 ∷ 0x00 ∷ 0x05 ∷ 0x01 ∷ []) (told (Halted Bounds) 1 0)
     -- P9, 00 for 05
-    ∷ row (0x01 ∷ 0x00 ∷ 0x01 ∷ 0x00 ∷ 0x02 ∷ 0x00 ∷ 0x00 ∷ 0x00 ∷ 0x06 ∷ 0x00 ∷ 0x00 ∷ 0x01 ∷ []) (told Null 1 0)
+    ∷ row (0x01 ∷ 0x00 ∷ 0x01 ∷ 0x00 ∷ 0x02 ∷ 0x00 ∷ 0x00 ∷ 0x00 ∷ 0x06 ∷ 0x00 ∷ 0x00 ∷ 0x01 ∷ []) (told (Halted Null) 1 0)
     -- P10
     ∷ row (0x01 ∷ 0x00 ∷ 0x01 ∷ 0x01 ∷ 0x00 ∷ 0x00 ∷ 0x00 ∷ 0x04 ∷ 0x06 ∷ 0x05 ∷ 0x01 ∷ 0x00 ∷ 0x09 ∷ 0x00 ∷ []) (told Stuck 1 1)
     -- P11: P10 without 04
@@ -105,5 +107,5 @@ pub worked :
     (map answerOf table ≡ map (λ r. r .stated) table)
     × (printed P2 ≡ text "value 0 int steps 4 unchecked 0\n")
     × (printed [] ≡ text "refused 1 at 0\n")
-unfolding answered readImage readFormat readTables readPlaced readExpr number below several readStruct readTarget readEntry isAmong readTypes readAddress readCell readCells headOf readHead readParts readNode placed groups lastGroup nodes judge wellLit inScope allFrom size wordKind checkedPointer checkedEmpty sameMode sameKind look update firstRun step sumRedex wordThen fieldRedex zeroed mallocRedex replace run numbersOf packed line digits printed
+unfolding answered readImage readFormat readTables readPlaced readExpr number below several readStruct readTarget readEntry isAmong readTypes readAddress readCell readCells operationOf headOf readHead readParts readNode placed groups lastGroup nodes judge wellLit inScope allFrom size wordKind checkedPointer checkedEmpty sameMode sameKind look update firstRun step sumRedex wordThen fieldRedex zeroed mallocRedex replace run numbersOf packed line digits printed
 worked = (refl, refl, refl)

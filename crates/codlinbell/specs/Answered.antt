@@ -24,8 +24,8 @@ abbrev pub answering : Answer → List ℕ → Answered
 answering a ws = record { answer = a; heap = ws }
 
 -- "On a refusal every heap word, beyond W too, is as it was."
-abbrev pub refusal : List ℕ → Fault → ℕ → Answered
-refusal ws f p = answering (Refused (record { fault = f; place = p })) ws
+abbrev pub refusing : List ℕ → Fault → ℕ → Answered
+refusing ws f p = answering (Refused (record { fault = f; place = p })) ws
 
 -- the result of a run, with the heap's words in the lent numbers
 abbrev pub ran : List ℕ → Result → Answered
@@ -38,28 +38,28 @@ defaultLimit = 100000
 module _ (ws : List ℕ) where
   -- the verdict on the content of an image
   abbrev pub contentVerdict : Content → Verdict
-  contentVerdict c = judged (settingOf (heapWords ws) (c .tables)) (heapOf (heapWords ws) (c .cells)) (c .expr)
+  contentVerdict c = judged (settingOf (heapWords ws) c) (heapOf (heapWords ws) (c .cells)) (c .expr)
 
   -- the run of the content of an image
   abbrev pub contentRun : (limit : ℕ) → Content → Result
-  contentRun limit c = run (settingOf (heapWords ws) (c .tables)) limit (heapOf (heapWords ws) (c .cells)) (c .expr)
+  contentRun limit c = run (settingOf (heapWords ws) c) limit (heapOf (heapWords ws) (c .cells)) (c .expr)
 
   -- "Typing starts after the whole image is read."
   abbrev pub judgedThen : Verdict → (Unit {0} → Result) → Answered
   judgedThen (good κ) go = ran ws (go tt)
-  judgedThen (bad f i) go = refusal ws f i
+  judgedThen (bad f i) go = refusing ws f i
 
-  abbrev pub readThen : (limit : ℕ) → reading.Reading Content → Answered
+  abbrev pub readThen : (limit : ℕ) → reading.Parsed Content → Answered
   readThen limit (reading.got c next) = judgedThen (contentVerdict c) (λ _. contentRun limit c)
-  readThen limit (reading.refused f p) = refusal ws f p
+  readThen limit (reading.refused f p) = refusing ws f p
 
 -- the answer to an image over lent heap numbers, with at most `limit` steps
 unfoldable pub answered : (image ws : List ℕ) (limit : ℕ) → Answered
 answered image ws limit = readThen ws limit (readImage (heapWords ws) image)
 
 -- the verdict on an image over a heap of so many words: its reading fault, or that of its content
-abbrev pub announcedOf : (words : ℕ) → reading.Reading Content → Verdict
-announcedOf words (reading.got c next) = judged (settingOf words (c .tables)) (heapOf words (c .cells)) (c .expr)
+abbrev pub announcedOf : (words : ℕ) → reading.Parsed Content → Verdict
+announcedOf words (reading.got c next) = judged (settingOf words c) (heapOf words (c .cells)) (c .expr)
 announcedOf words (reading.refused f p) = bad f p
 
 unfoldable pub announced : (words : ℕ) (image : List ℕ) → Verdict

@@ -3,5 +3,6 @@
 pub mod Answered
 pub mod Hosted
 pub mod Printed
+pub mod Promised
 pub mod Placing
 pub mod Prepared

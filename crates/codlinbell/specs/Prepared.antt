@@ -10,7 +10,7 @@ use Rattle.image.specs.Image.{readImage}
 use Rattle.image.specs.Tabled.{Held}
 
 -- Tables that are long enough for any content of the image: no node takes less than a byte, and no cell less than three.
-pub record Room (image structs types cells nodes marks queue bound frames : List ℕ) : Type 0 where
+pub record LongTables (image structs types cells nodes marks queue bound frames : List ℕ) : Type 0 where
   pub structs-room : 544 ≤ length structs
   pub types-room : 256 ≤ length types
   pub cells-room : min (length image) 12288 ≤ length cells

@@ -1,11 +1,11 @@
 // Codlinbell: the answer to an image over a lent heap, the verdict on it alone, and the C interface.
-mod announce;
-mod ask;
+mod answer;
+mod heap;
 mod host;
-mod place;
+mod verdict;
 
-pub use announce::judge_image;
-pub use ask::DEFAULT_LIMIT;
-pub use ask::answer_to;
-pub use ask::answer_within;
+pub use answer::DEFAULT_LIMIT;
+pub use answer::answer_to;
+pub use answer::answer_within;
 pub use host::codlinbell_answer;
+pub use verdict::judge_image;

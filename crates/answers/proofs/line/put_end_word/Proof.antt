@@ -13,6 +13,12 @@ slice-aggregate-put-text c = search needs
 put-text-requires : tie.Need-put-text-requires
 put-text-requires c κs = search needs
 
+enum-known-end : tie.Need-enum-known-end
+enum-known-end c = search needs
+
+put-halt-word-requires : tie.Need-put-halt-word-requires
+put-halt-word-requires c κs = search needs
+
 enum-told-2 : tie.Need-enum-told-2
 enum-told-2 c = search needs
 
@@ -31,33 +37,6 @@ slice-aggregate-put-text-3 c = search needs
 put-text-requires-3 : tie.Need-put-text-requires-3
 put-text-requires-3 c κs = search needs
 
-enum-told-4 : tie.Need-enum-told-4
-enum-told-4 c = search needs
-
-slice-aggregate-put-text-4 : tie.Need-slice-aggregate-put-text-4
-slice-aggregate-put-text-4 c = search needs
-
-put-text-requires-4 : tie.Need-put-text-requires-4
-put-text-requires-4 c κs = search needs
-
-enum-told-5 : tie.Need-enum-told-5
-enum-told-5 c = search needs
-
-slice-aggregate-put-text-5 : tie.Need-slice-aggregate-put-text-5
-slice-aggregate-put-text-5 c = search needs
-
-put-text-requires-5 : tie.Need-put-text-requires-5
-put-text-requires-5 c κs = search needs
-
-enum-told-6 : tie.Need-enum-told-6
-enum-told-6 c = search needs
-
-slice-aggregate-put-text-6 : tie.Need-slice-aggregate-put-text-6
-slice-aggregate-put-text-6 c = search needs
-
-put-text-requires-6 : tie.Need-put-text-requires-6
-put-text-requires-6 c κs = search needs
-
 same-length : tie.Need-same-length
 same-length c = search needs
 
@@ -68,31 +47,19 @@ same-length-2 : tie.Need-same-length-2
 same-length-2 c = search needs
 
 returns-2 : tie.Need-returns-2
-returns-2 c = (rw (c .before .before .before .before .before .enum-told2 .given .1) (c .before .before .put-text2 .ensures), omega (arith, c .before .before .put-text2 .ensures .behind))
+returns-2 c = (rw (c .before .before .before .before .before .end .given .1) (c .before .before .put-halt-word .ensures .0), c .before .before .put-halt-word .ensures .1)
 
 same-length-3 : tie.Need-same-length-3
 same-length-3 c = search needs
 
 returns-3 : tie.Need-returns-3
-returns-3 c = (rw (c .before .before .before .before .before .enum-told3 .given .1) (c .before .before .put-text3 .ensures), omega (arith, c .before .before .put-text3 .ensures .behind))
+returns-3 c = (rw (c .before .before .before .before .before .enum-told2 .given .1) (c .before .before .put-text2 .ensures), omega (arith, c .before .before .put-text2 .ensures .behind))
 
 same-length-4 : tie.Need-same-length-4
 same-length-4 c = search needs
 
 returns-4 : tie.Need-returns-4
-returns-4 c = (rw (c .before .before .before .before .before .enum-told4 .given .1) (c .before .before .put-text4 .ensures), omega (arith, c .before .before .put-text4 .ensures .behind))
-
-same-length-5 : tie.Need-same-length-5
-same-length-5 c = search needs
-
-returns-5 : tie.Need-returns-5
-returns-5 c = (rw (c .before .before .before .before .before .enum-told5 .given .1) (c .before .before .put-text5 .ensures), omega (arith, c .before .before .put-text5 .ensures .behind))
-
-same-length-6 : tie.Need-same-length-6
-same-length-6 c = search needs
-
-returns-6 : tie.Need-returns-6
-returns-6 c = (rw (c .before .before .before .before .before .enum-told6 .given .1) (c .before .before .put-text6 .ensures), omega (arith, c .before .before .put-text6 .ensures .behind))
+returns-4 c = (rw (c .before .before .before .before .before .enum-told3 .given .1) (c .before .before .put-text3 .ensures), omega (arith, c .before .before .put-text3 .ensures .behind))
 
 pub put-end-word-spec : {M : Type 1} → statement M
 put-end-word-spec =
@@ -101,21 +68,14 @@ put-end-word-spec =
     enum-told
     slice-aggregate-put-text
     put-text-requires
+    enum-known-end
+    put-halt-word-requires
     enum-told-2
     slice-aggregate-put-text-2
     put-text-requires-2
     enum-told-3
     slice-aggregate-put-text-3
     put-text-requires-3
-    enum-told-4
-    slice-aggregate-put-text-4
-    put-text-requires-4
-    enum-told-5
-    slice-aggregate-put-text-5
-    put-text-requires-5
-    enum-told-6
-    slice-aggregate-put-text-6
-    put-text-requires-6
     same-length
     returns
     same-length-2
@@ -123,8 +83,4 @@ put-end-word-spec =
     same-length-3
     returns-3
     same-length-4
-    returns-4
-    same-length-5
-    returns-5
-    same-length-6
-    returns-6)
+    returns-4)

@@ -8,13 +8,13 @@ use lib.ListN.{length, length-set}
 use lib.Seq.{sets, sets-eq}
 use borrow.Author.Needs.{needs}
 use borrow.Author.Tests.{lt-ltb, le-ltb}
-use Rattle.answers.specs.Out.{Told, toldSix}
+use Rattle.answers.specs.Out.{Numbered, numberedSix}
 use Rattle.answers.proofs.out.write_six.Statement.{statement}
 use Rattle.answers.proofs.out.write_six.Tie as tie
 
 -- six stores from the first number on, where there is room
 six-stored : (ws : List ℕ) (a b c d e f : ℕ) → 6 ≤ length ws
-    → _≡_ {A = Told} (record { done = true; out = sets ws 0 (a ∷ b ∷ c ∷ d ∷ e ∷ f ∷ []) }) (toldSix ws (a ∷ b ∷ c ∷ d ∷ e ∷ f ∷ []))
+    → _≡_ {A = Numbered} (record { done = true; out = sets ws 0 (a ∷ b ∷ c ∷ d ∷ e ∷ f ∷ []) }) (numberedSix ws (a ∷ b ∷ c ∷ d ∷ e ∷ f ∷ []))
 six-stored ws a b c d e f h = rw (le-ltb (length ws) 6 h, sets-eq (a ∷ b ∷ c ∷ d ∷ e ∷ f ∷ []) ws 0 h)
 
 returns : tie.Need-returns

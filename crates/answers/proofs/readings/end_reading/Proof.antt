@@ -15,12 +15,6 @@ enum-told-2 c = search needs
 enum-told-3 : tie.Need-enum-told-3
 enum-told-3 c = search needs
 
-enum-told-4 : tie.Need-enum-told-4
-enum-told-4 c = search needs
-
-enum-told-5 : tie.Need-enum-told-5
-enum-told-5 c = search needs
-
 returns : tie.Need-returns
 returns c = rw (c .before .end .given .1)
 
@@ -33,12 +27,6 @@ returns-3 c = search needs
 returns-4 : tie.Need-returns-4
 returns-4 c = search needs
 
-returns-5 : tie.Need-returns-5
-returns-5 c = search needs
-
-returns-6 : tie.Need-returns-6
-returns-6 c = search needs
-
 pub end-reading-spec : {M : Type 1} → statement M
 end-reading-spec =
     tie.close
@@ -47,11 +35,7 @@ end-reading-spec =
     enum-told
     enum-told-2
     enum-told-3
-    enum-told-4
-    enum-told-5
     returns
     returns-2
     returns-3
-    returns-4
-    returns-5
-    returns-6)
+    returns-4)

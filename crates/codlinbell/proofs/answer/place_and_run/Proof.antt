@@ -1,8 +1,8 @@
--- `codlinbell::ask::place_and_run` runs the content over its own heap: clearing, placing and running make the definition's run.
+-- `codlinbell::answer::place_and_run` runs the content over its own heap: clearing, placing and running make the definition's run.
 use borrow.Author.Needs.{needs}
 use Rattle.codlinbell.proofs.Composed.{run-told}
-use Rattle.codlinbell.proofs.ask.place_and_run.Statement.{statement}
-use Rattle.codlinbell.proofs.ask.place_and_run.Tie as tie
+use Rattle.codlinbell.proofs.answer.place_and_run.Statement.{statement}
+use Rattle.codlinbell.proofs.answer.place_and_run.Tie as tie
 
 clear-requires : tie.Need-clear-requires
 clear-requires c κs = search needs

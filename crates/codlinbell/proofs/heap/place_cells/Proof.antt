@@ -1,4 +1,4 @@
--- `codlinbell::place::place_cells` stores every row. The loop's invariant is `Placing`: the rows still to be stored are those that are left,
+-- `codlinbell::heap::place_cells` stores every row. The loop's invariant is `Placing`: the rows still to be stored are those that are left,
 -- and storing them brings the heap to where all rows would have brought it. The measure is how many are left.
 use mathlib.Core.Path.{_≡_, refl, sym, _∙_}
 use mathlib.Core.List.{List}
@@ -9,10 +9,10 @@ use lib.ListN.{length, getD, length-set}
 use borrow.Author.Needs.{needs}
 use Rattle.cells.specs.Lent.{putWord}
 use Rattle.codlinbell.specs.Placing.{rowsStored}
-use Rattle.codlinbell.proofs.place.place_cells.Statement.{statement}
-use Rattle.codlinbell.proofs.place.place_cells.Tie as tie
-use Rattle.codlinbell.proofs.place.place_cells.Reads as reads
-use Rattle.codlinbell.proofs.place.place_cells.Lts as lts
+use Rattle.codlinbell.proofs.heap.place_cells.Statement.{statement}
+use Rattle.codlinbell.proofs.heap.place_cells.Tie as tie
+use Rattle.codlinbell.proofs.heap.place_cells.Reads as reads
+use Rattle.codlinbell.proofs.heap.place_cells.Lts as lts
 
 record Placing (heap₀ rows heap : List ℕ) (j left : ℕ) : Type 0 where
   long : length heap ≡ length heap₀

@@ -1,11 +1,11 @@
--- `codlinbell::announce::judge_in` gives the image's verdict: a refusal of loading is its own, and a content that was loaded is judged.
+-- `codlinbell::verdict::judge_in` gives the image's verdict: a refusal of loading is its own, and a content that was loaded is judged.
 use mathlib.Core.Path.{refl, sym}
 use native.Mathlib.Omega.{arith}
 use lib.Seq.{length-take-le}
 use Rattle.codlinbell.proofs.Composed.{LoadedAs, loaded-told, unread-verdict, judged-read}
 use borrow.Author.Needs.{needs}
-use Rattle.codlinbell.proofs.announce.judge_in.Statement.{statement}
-use Rattle.codlinbell.proofs.announce.judge_in.Tie as tie
+use Rattle.codlinbell.proofs.verdict.judge_in.Statement.{statement}
+use Rattle.codlinbell.proofs.verdict.judge_in.Tie as tie
 
 -- What loading left, where the image reads without fault.
 told : (c : tie.After-struct-known)

@@ -1,8 +1,9 @@
-// Document 01's number and values for each case of an answer.
+// Document 01's number and values for each fault and each end.
 ghost use mathlib.Core.Path.{_≡_};
-ghost use Rattle.calculus.specs.Answers.{faultNumber, endNumber, endValue, endKind};
+ghost use Rattle.calculus.specs.Answers.{faultNumber, haltNumber, endNumber, endValue, endKind};
 use calculus::End;
 use calculus::Fault;
+use calculus::Halt;
 use cells::Kind;
 
 // The number of a fault, 1 to 10.
@@ -23,15 +24,24 @@ pub fn fault_number(fault: Fault) -> u64
     }
 }
 
-// The number of an end: 0 value, 1 null, 2 bounds, 3 room, 4 stuck, 5 more.
+// The number of the end that a halt is: 1 null, 2 bounds, 3 room.
+fn halt_number(halt: Halt) -> u64
+    ensures { λ r. ⌜ r ≡ haltNumber halt ⌝ }
+{
+    match halt {
+        Halt::Null => 1,
+        Halt::Bounds => 2,
+        Halt::Room => 3,
+    }
+}
+
+// The number of an end: 0 value, a halt's number, 4 stuck, 5 more.
 pub fn end_number(end: End) -> u64
     ensures { λ r. ⌜ r ≡ endNumber end ⌝ }
 {
     match end {
         End::Value(_) => 0,
-        End::Null => 1,
-        End::Bounds => 2,
-        End::Room => 3,
+        End::Halted(halt) => halt_number(halt),
         End::Stuck => 4,
         End::More => 5,
     }
@@ -43,9 +53,7 @@ pub fn end_value(end: End) -> u64
 {
     match end {
         End::Value(cell) => cell.value,
-        End::Null => 0,
-        End::Bounds => 0,
-        End::Room => 0,
+        End::Halted(_) => 0,
         End::Stuck => 0,
         End::More => 0,
     }
@@ -57,9 +65,7 @@ pub fn end_kind(end: End) -> Kind
 {
     match end {
         End::Value(cell) => cell.kind,
-        End::Null => Kind::Int,
-        End::Bounds => Kind::Int,
-        End::Room => Kind::Int,
+        End::Halted(_) => Kind::Int,
         End::Stuck => Kind::Int,
         End::More => Kind::Int,
     }

@@ -1,12 +1,12 @@
--- `codlinbell::ask::answer_in` answers as the definition does: a refusal of loading is the image's, and a content that was loaded stands in the
+-- `codlinbell::answer::answer_in` answers as the definition does: a refusal of loading is the image's, and a content that was loaded stands in the
 -- fronts of the tables, which are judged and run.
 use mathlib.Core.Path.{sym, _∙_}
 use native.Mathlib.Omega.{arith}
 use lib.Seq.{length-take-le}
 use Rattle.codlinbell.proofs.Composed.{LoadedAs, loaded-told, unread-told, read-told}
 use borrow.Author.Needs.{needs}
-use Rattle.codlinbell.proofs.ask.answer_in.Statement.{statement}
-use Rattle.codlinbell.proofs.ask.answer_in.Tie as tie
+use Rattle.codlinbell.proofs.answer.answer_in.Statement.{statement}
+use Rattle.codlinbell.proofs.answer.answer_in.Tie as tie
 
 -- What loading left, where the image reads without fault.
 told : (c : tie.After-struct-known)

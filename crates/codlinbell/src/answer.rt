@@ -5,9 +5,9 @@ ghost use mathlib.Core.List.{List};
 ghost use lib.ListN.{length};
 ghost use Rattle.image.specs.Content.{Content};
 ghost use Rattle.codlinbell.specs.Answered.{answering, answered, ran, judgedThen, contentVerdict, contentRun, defaultLimit};
-ghost use Rattle.codlinbell.specs.Prepared.{Room, Prepared};
+ghost use Rattle.codlinbell.specs.Prepared.{LongTables, Prepared};
 ghost use Rattle.answers.specs.declared.Answer;
-use crate::place::place_cells;
+use crate::heap::place_cells;
 use answers::Answer;
 use calculus::Outcome;
 use cells::clear;
@@ -16,6 +16,7 @@ use image::Loading;
 use image::load;
 use judge::Judged;
 use judge::judge_script;
+use machine::Terms;
 use machine::run;
 
 // The steps that a run may take where no limit is named.
@@ -171,17 +172,17 @@ fn answer_in(
     image: &[u8],
     limit: u64,
 ) -> Answer
-    requires { ⌜ Room (now image) (now structs) (now types) (now cells) (now nodes) (now marks) (now queue) (now bound) (now frames) ⌝ }
+    requires { ⌜ LongTables (now image) (now structs) (now types) (now cells) (now nodes) (now marks) (now queue) (now bound) (now frames) ⌝ }
     ensures { λ r. ⌜ answering r (now (heap .exit)) ≡ answered (now (image .entry)) (now (heap .entry)) limit ⌝ }
 {
     let words = heap_words(heap);
     match load(image, words, structs, types, cells, nodes) {
-        Loading::Loaded(counts) => {
-            let s = 17 * counts.structs;
-            let t = counts.types;
-            let c = 3 * counts.cells;
-            let n = 4 * counts.nodes;
-            let marked = counts.cells;
+        Loading::Loaded(sizes) => {
+            let s = 17 * sizes.structs;
+            let t = sizes.types;
+            let c = 3 * sizes.cells;
+            let n = 4 * sizes.nodes;
+            let marked = sizes.cells;
             judge_and_run(
                 heap,
                 &mut marks[..marked],
@@ -248,5 +249,11 @@ fn place_and_run(
 {
     clear(heap, words);
     place_cells(heap, cells);
-    run(heap, frames, bound, nodes, structs, types, words, limit)
+    let terms = Terms {
+        words,
+        low: 1,
+        high: words,
+        limit,
+    };
+    run(heap, frames, bound, nodes, structs, types, terms)
 }

@@ -1,7 +1,7 @@
--- `codlinbell::announce::judge_image` gives the verdict over at most 4,096 words.
+-- `codlinbell::verdict::judge_image` gives the verdict over at most 4,096 words.
 use borrow.Author.Needs.{needs}
-use Rattle.codlinbell.proofs.announce.judge_image.Statement.{statement}
-use Rattle.codlinbell.proofs.announce.judge_image.Tie as tie
+use Rattle.codlinbell.proofs.verdict.judge_image.Statement.{statement}
+use Rattle.codlinbell.proofs.verdict.judge_image.Tie as tie
 
 slice-aggregate-judge-in : tie.Need-slice-aggregate-judge-in
 slice-aggregate-judge-in c = search needs

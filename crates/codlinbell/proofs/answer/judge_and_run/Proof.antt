@@ -1,8 +1,8 @@
--- `codlinbell::ask::judge_and_run` answers by the verdict on the content, and runs it if that is good.
+-- `codlinbell::answer::judge_and_run` answers by the verdict on the content, and runs it if that is good.
 use Rattle.codlinbell.proofs.Composed.{accepted-told, refused-told, bound-written}
 use borrow.Author.Needs.{needs}
-use Rattle.codlinbell.proofs.ask.judge_and_run.Statement.{statement}
-use Rattle.codlinbell.proofs.ask.judge_and_run.Tie as tie
+use Rattle.codlinbell.proofs.answer.judge_and_run.Statement.{statement}
+use Rattle.codlinbell.proofs.answer.judge_and_run.Tie as tie
 
 judge-script-requires : tie.Need-judge-script-requires
 judge-script-requires c κs = search needs

@@ -4,7 +4,7 @@ ghost use mathlib.Core.Path.{_≡_};
 ghost use lib.ListN.{length};
 ghost use Rattle.judge.specs.Script.{asVerdict};
 ghost use Rattle.codlinbell.specs.Answered.{announced};
-ghost use Rattle.codlinbell.specs.Prepared.{Room};
+ghost use Rattle.codlinbell.specs.Prepared.{LongTables};
 use image::Loading;
 use image::load;
 use judge::Judged;
@@ -40,7 +40,7 @@ fn most_words(words: usize) -> usize
     if words < 4096 { words } else { 4096 }
 }
 
-// The verdict, with tables that are long enough for any content of the image. Frames are not needed: `bound` stands for them in `Room`.
+// The verdict, with tables that are long enough for any content of the image. Frames are not needed: `bound` stands for them in `LongTables`.
 fn judge_in(
     structs: &mut [u64],
     types: &mut [u64],
@@ -52,15 +52,15 @@ fn judge_in(
     image: &[u8],
     words: usize,
 ) -> Judged
-    requires { ⌜ Room (now image) (now structs) (now types) (now cells) (now nodes) (now marks) (now queue) (now bound) (now bound) ⌝ }
+    requires { ⌜ LongTables (now image) (now structs) (now types) (now cells) (now nodes) (now marks) (now queue) (now bound) (now bound) ⌝ }
     ensures { λ r. ⌜ asVerdict r ≡ announced words (now (image .entry)) ⌝ }
 {
     match load(image, words, structs, types, cells, nodes) {
-        Loading::Loaded(counts) => {
-            let s = 17 * counts.structs;
-            let t = counts.types;
-            let c = 3 * counts.cells;
-            let n = 4 * counts.nodes;
+        Loading::Loaded(sizes) => {
+            let s = 17 * sizes.structs;
+            let t = sizes.types;
+            let c = 3 * sizes.cells;
+            let n = 4 * sizes.nodes;
             judge_script(
                 &structs[..s],
                 &types[..t],
