@@ -18,8 +18,9 @@ has-key ks x k = go (hasKey ks x) (λ n. miss ks x n k)
     go true n = tt
     go false n = n tt
 
+-- `ks` are the tags of the operations that have no arm of their own
 module _ (P : Operation → Type 0) (ks : List ℕ) where
-  -- P holds of the operation, if its tag is one of those left
+  -- P holds of the operation, if it is one of them
   abbrev Left : Operation → Type 0
   Left o = T (hasKey ks (tagOf the-type o)) → P o
 
