@@ -1,8 +1,8 @@
--- What a reader must believe of the judge: when its answer is the definition's, and what its contract says. The models below stand in
--- that contract only to say what the code leaves in the lent lists; that they mean the definitions is proved.
+-- To be believed: when the judge's answer is the definition's, and what its contract says. The models below stand in that contract only to
+-- say what the code leaves in the lent lists; that they mean the definitions is proved.
 pub mod Premises
 pub mod Script
--- Models of the code, each function's over lists.
+-- Models of the code: each function's over lists.
 pub mod Tables
 pub mod Addresses
 pub mod Marks
