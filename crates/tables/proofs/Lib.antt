@@ -1,0 +1,2 @@
+-- What callers may cite of the lent tables.
+pub mod Fields
