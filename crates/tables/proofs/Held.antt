@@ -1,18 +1,19 @@
 -- What is read off the structs and the word types of a setting that the lent numbers hold: how many words a target covers, which kind each
 -- of them has, and the kind of a word type.
-use Prim.Native.Nat.{ℕ, zero, suc, _<_}
+use Prim.Native.Nat.{ℕ, zero, suc, _%_, _<_}
 use mathlib.Core.Path.{_≡_, refl, sym, _∙_, ap}
 use mathlib.Core.List.{List, [], _∷_}
 use native.Mathlib.Omega.{arith}
 use lib.ListN.{length, getD}
-use Rattle.cells.specs.Code.{packed, unpacked, numberIn, Small, small-int}
+use Rattle.cells.specs.Code.{modeOf, packed, unpacked, numberIn, Small, small-int, small-word}
+use Rattle.cells.specs.declared.Mode.{Mode}
 use Rattle.cells.specs.declared.Kind.{Kind}
 use Rattle.cells.specs.declared.Kind.the-variants.{Int, Word, Struct, Array}
 use Rattle.cells.proofs.Codes.{round-trip}
 use Rattle.calculus.specs.Setting.{Setting, kindOf, fieldsOf, size, wordKind}
-use Rattle.tables.specs.Kinds.{typeCodeAt, sizeAt, wordTypeAt, HoldsSetting}
+use Rattle.tables.specs.Kinds.{typeCodeAt, fieldTypeAt, sizeAt, wordTypeAt, wordCode, HoldsSetting}
 use Rattle.tables.specs.Rows.{typeKind}
-use Rattle.tables.proofs.Coded.{Coded, coded-int, coded-word, coded-struct, coded-array, coded, coded-kind}
+use Rattle.tables.proofs.Coded.{Coded, coded-int, coded-word, coded-struct, coded-array, coded, coded-kind, word-made}
 
 -- what is read below the end is read whatever stands for the numbers past it
 pub getD-below : (l : List ℕ) (n d d′ : ℕ) → n < length l → getD l n d ≡ getD l n d′
@@ -58,6 +59,14 @@ module _ {S : Setting} {structs types : List ℕ} (h : HoldsSetting S structs ty
   words-small (Word m n) i = h .small n
   words-small (Struct m s) i = h .small (getD (fieldsOf S s) i 0)
   words-small (Array m k n) i = h .small n
+
+  -- ---- a pointer to a field, with the mode of the pointer that has the code
+  pub field-code : (code s f : ℕ) → f < length (fieldsOf S s)
+      → wordCode code (fieldTypeAt structs s f) ≡ packed (Word (modeOf (code % 2)) (getD (fieldsOf S s) f 0))
+  field-code code s f l = rw (h .fields s f l) (word-made code (getD (fieldsOf S s) f 0) (h .bytes s f))
+
+  pub field-small : (m : Mode) (s f : ℕ) → Small (Word m (getD (fieldsOf S s) f 0))
+  field-small m s f = small-word (h .bytes s f)
 
   -- ---- word types
   pub type-kind : (n : ℕ) → typeKind types n ≡ kindOf S n
