@@ -6,7 +6,7 @@ use mathlib.Core.List.{List}
 use native.Mathlib.Omega.{arith}
 use Rattle.cells.specs.declared.Mode.{Mode}
 use Rattle.calculus.specs.Expr.{Expr, nodes}
-use Rattle.tables.specs.Rows.{wholeRows, putRow, Work, push, fetch, take, apply, join, hold, drop, stop, TaskRow, taskRow, taskRowAt}
+use Rattle.tables.specs.Rows.{wholeRows, headAt, datumAt, putRow, Work, push, fetch, take, apply, join, hold, drop, stop, TaskRow, taskRow, taskRowAt}
 use Rattle.tables.specs.Parts.{PartRows, part-lit, part-var, part-malloc, part-bind, part-one, part-two, FrontKept}
 use Rattle.tables.proofs.Placed.{length-row, head-elsewhere, datum-elsewhere, row-inside}
 
@@ -63,6 +63,36 @@ part-inside (part-one {o} e x) = told-inside _ _ _ (apply o) x refl
 part-inside (part-two {o} a b x) = told-inside _ _ _ (join o) x refl
 
 -- ---- rows that stay
+-- the numbers of row j are as they were
+abbrev pub SameRow : (rows rows′ : List ℕ) (j : ℕ) → Type 0
+SameRow rows rows′ j = (headAt rows′ j ≡ headAt rows j) × (datumAt rows′ j ≡ datumAt rows j)
+
+says-same : (types rows rows′ : List ℕ) (j : ℕ) → SameRow rows rows′ j → taskRowAt types rows′ j ≡ taskRowAt types rows j
+unfolding taskRowAt
+says-same types rows rows′ j (h, d) = rw (h, d)
+
+-- a part stays if its rows stay
+pub part-same : {types rows rows′ : List ℕ} {m : Mode} {i p q : ℕ} {e : Expr} (a b : ℕ)
+    → ((j : ℕ) → a ≤ j → j < b → SameRow rows rows′ j) → a ≤ p → q ≤ b → PartRows types rows m i p e q → PartRows types rows′ m i p e q
+part-same a b same l n (part-lit {p} x) = part-lit (says-same _ _ _ p (same p l n) ∙ x)
+part-same a b same l n (part-var {p} x) = part-var (says-same _ _ _ p (same p l n) ∙ x)
+part-same a b same l n (part-malloc {p} x d) = part-malloc (says-same _ _ _ p (same p l n) ∙ x) (same p l n .1 ∙ d)
+part-same a b same l n (part-bind {q} {r} u x v y) =
+    let f = forward u in
+    let g = forward v in
+    part-bind (part-same a b same l (omega arith) u) (says-same _ _ _ q (same q (omega arith) (omega arith)) ∙ x)
+    (part-same a b same (omega arith) (omega arith) v)
+    (says-same _ _ _ r (same r (omega arith) (omega arith)) ∙ y)
+part-same a b same l n (part-one {q} u x) =
+    let f = forward u in
+    part-one (part-same a b same l (omega arith) u) (says-same _ _ _ q (same q (omega arith) (omega arith)) ∙ x)
+part-same a b same l n (part-two {q} {r} u v x) =
+    let f = forward u in
+    let g = forward v in
+    part-two (part-same a b same l (omega arith) u) (part-same a b same (omega arith) (omega arith) v)
+    (says-same _ _ _ r (same r (omega arith) (omega arith)) ∙ x)
+
+-- ---- the rows before an end stay
 pub kept-all : {rows : List ℕ} (end : ℕ) → FrontKept end rows rows
 kept-all end = record { heads = λ p l. refl; datums = λ p l. refl; long = refl }
 
@@ -85,18 +115,8 @@ kept-put rows {p = p} head datum n =
 
 pub front-row : {end : ℕ} {rows rows′ : List ℕ} (types : List ℕ) (p : ℕ) → FrontKept end rows rows′ → p < end
     → taskRowAt types rows′ p ≡ taskRowAt types rows p
-unfolding taskRowAt
-front-row types p k l = rw (k .heads p l, k .datums p l)
+front-row types p k l = says-same types _ _ p (k .heads p l, k .datums p l)
 
 pub part-kept : {end : ℕ} {types rows rows′ : List ℕ} {m : Mode} {i p q : ℕ} {e : Expr} → FrontKept end rows rows′ → q ≤ end
     → PartRows types rows m i p e q → PartRows types rows′ m i p e q
-part-kept k l (part-lit {p} x) = part-lit (front-row _ p k l ∙ x)
-part-kept k l (part-var {p} x) = part-var (front-row _ p k l ∙ x)
-part-kept k l (part-malloc {p} x d) = part-malloc (front-row _ p k l ∙ x) (k .datums p l ∙ d)
-part-kept k l (part-bind {q} {r} a x b y) =
-    let n = forward b in
-    part-bind (part-kept k (omega arith) a) (front-row _ q k (omega arith) ∙ x) (part-kept k (omega arith) b) (front-row _ r k l ∙ y)
-part-kept k l (part-one {q} e x) = part-one (part-kept k (omega arith) e) (front-row _ q k l ∙ x)
-part-kept k l (part-two {r} a b x) =
-    let n = forward b in
-    part-two (part-kept k (omega arith) a) (part-kept k (omega arith) b) (front-row _ r k l ∙ x)
+part-kept {end} k n x = part-same 0 end (λ j _ l. (k .heads j l, k .datums j l)) (omega arith) n x

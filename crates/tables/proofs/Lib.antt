@@ -1,4 +1,5 @@
--- What callers may cite of the lent tables.
+-- What callers may cite of the lent tables. One who writes rows starts at Written, one who reads them at Operands and Laid, and one who reads
+-- codes of kinds at Held.
 pub mod Fields
 pub mod Placed
 pub mod Operands
@@ -6,3 +7,4 @@ pub mod Laid
 pub mod Written
 pub mod Coded
 pub mod Held
+pub mod Worked
