@@ -55,12 +55,12 @@ told-inside types rows p w x z =
     (λ s. let e : stopping w ≡ 1 = sym (ap (λ (r : TaskRow). stopping (r .work)) x) ∙ ap stopping s in omega (arith, e, z))
 
 pub part-inside : {types rows : List ℕ} {m : Mode} {i p q : ℕ} {e : Expr} → PartRows types rows m i p e q → q ≤ wholeRows rows
-part-inside (part-lit {n} {κ} x) = told-inside _ _ _ (push n κ) x refl
-part-inside (part-var {k} x) = told-inside _ _ _ (fetch k) x refl
-part-inside (part-malloc x d) = told-inside _ _ _ _ x refl
-part-inside (part-bind a x b y) = told-inside _ _ _ drop y refl
-part-inside (part-one {o} e x) = told-inside _ _ _ (apply o) x refl
-part-inside (part-two {o} a b x) = told-inside _ _ _ (join o) x refl
+part-inside (part-lit {n} {κ} x) = omega (arith, told-inside _ _ _ (push n κ) x refl)
+part-inside (part-var {k} x) = omega (arith, told-inside _ _ _ (fetch k) x refl)
+part-inside (part-malloc x d) = omega (arith, told-inside _ _ _ _ x refl)
+part-inside (part-bind a x b y) = omega (arith, told-inside _ _ _ drop y refl)
+part-inside (part-one {o} e x) = omega (arith, told-inside _ _ _ (apply o) x refl)
+part-inside (part-two {o} a b x) = omega (arith, told-inside _ _ _ (join o) x refl)
 
 -- ---- rows that stay
 -- the numbers of row j are as they were
