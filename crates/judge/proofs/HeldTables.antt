@@ -13,7 +13,7 @@ use Rattle.judge.specs.Tables.{entryAt, fieldAt, codeOf}
 use Rattle.judge.specs.Addresses.{entries}
 
 -- structs and word types
-pub record HoldsSetting (S : Setting) (structs types : List ℕ) : Type 0 where
+pub record SettingCoded (S : Setting) (structs types : List ℕ) : Type 0 where
   pub count : (s : ℕ) → getD structs (17 * s) 0 ≡ length (fieldsOf S s)
   pub fields : (s i : ℕ) → i < length (fieldsOf S s) → fieldAt structs s i ≡ getD (fieldsOf S s) i 0
   pub codes : (n : ℕ) → codeOf types n ≡ packed (kindOf S n)

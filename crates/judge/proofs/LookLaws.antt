@@ -22,7 +22,7 @@ use Rattle.judge.specs.Addresses.{entries, covered}
 use Rattle.judge.specs.Marks.{Seen}
 use Rattle.judge.specs.Literals as model
 use Rattle.judge.specs.Literals.{Looking, on, off, span, claim, lookFields, lookAlike, lookWords}
-use Rattle.judge.proofs.HeldTables.{HoldsSetting, HoldsHeap, literalAt}
+use Rattle.judge.proofs.HeldTables.{SettingCoded, HoldsHeap, literalAt}
 use Rattle.judge.proofs.AddressLaws.{found-there, there-found}
 use Rattle.judge.proofs.Shapes.{claim-kind, word-small, span-base, span-size}
 use Rattle.judge.proofs.MarkLaws.{HasMark, Grown, grown-none}
@@ -50,7 +50,7 @@ pub closed-still : {structs types cells marks marks′ : List ℕ} {v code : ℕ
 closed-still still c =
     record { each = λ i l. let w = c .each i l in record { index = w .index; needed = w .needed; marked = still (w .index) (w .marked) } }
 
-module _ {S : Setting} {H : Heap} {structs types cells : List ℕ} (hs : HoldsSetting S structs types) (hh : HoldsHeap H cells) where
+module _ {S : Setting} {H : Heap} {structs types cells : List ℕ} (hs : SettingCoded S structs types) (hh : HoldsHeap H cells) where
   -- what a look may find
   pub data Looks (P : ℕ → Type 0) (s : Seen) (v code : ℕ) : Looking → Type 0 where
     looks-on : {s′ : Seen} → Grown cells P s s′ → Fit cells s′ → Closed structs types cells (s′ .marks) v code → Looks P s v code (on s′)

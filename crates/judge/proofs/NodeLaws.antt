@@ -43,7 +43,7 @@ use Rattle.judge.specs.Nodes.{Judging, judging, thenJudging, judgeNode}
 use Rattle.judge.specs.declared.NodeTold.{NodeTold}
 use Rattle.judge.specs.declared.NodeTold.the-variants as told
 use Rattle.judge.proofs.Lists.{in-row}
-use Rattle.judge.proofs.HeldTables.{HoldsSetting}
+use Rattle.judge.proofs.HeldTables.{SettingCoded}
 use Rattle.judge.proofs.Shapes.{size-of}
 use Rattle.judge.proofs.PassLaws.{LiteralNode, wellAt, FirstBad}
 use Rattle.judge.proofs.RuleLaws.{ToldRight, right-good, right-bad, right-if, access-told-right, field-told-right, cast-told-right, act-told-right}
@@ -191,7 +191,7 @@ two-some : (o : Two) → isLiteral (twoOperation o) ≡ false
 two-some (act o) = refl
 
 -- ---- the induction
-module _ {S : Setting} {H : Heap} {structs types table : List ℕ} {first : ℕ} (hs : HoldsSetting S structs types)
+module _ {S : Setting} {H : Heap} {structs types table : List ℕ} {first : ℕ} (hs : SettingCoded S structs types)
     (fb : FirstBad S H table first) where
   -- a node that is no literal is not the first bad one
   beyond : (i : ℕ) (o : Operation) → operationAt table i ≡ o → isLiteral o ≡ false → i < length table / 4 → i ≤ first → suc i ≤ first

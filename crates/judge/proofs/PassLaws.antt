@@ -18,7 +18,7 @@ use Rattle.judge.specs.Addresses.{entries}
 use Rattle.judge.specs.Marks.{Seen, seen}
 use Rattle.judge.specs.Literals as model
 use Rattle.judge.specs.Literals.{Looking, on, off, isLiteral, thenNext}
-use Rattle.judge.proofs.HeldTables.{HoldsSetting, HoldsHeap}
+use Rattle.judge.proofs.HeldTables.{SettingCoded, HoldsHeap}
 use Rattle.judge.proofs.MarkLaws.{blank-most}
 use Rattle.judge.proofs.QueueLaws.{Settled, Judges, judges-good, judges-bad, judges}
 
@@ -37,7 +37,7 @@ pub record FirstBad (S : Setting) (H : Heap) (table : List ℕ) (r : ℕ) : Type
   pub literal : r < length table / 4 → LiteralNode table r
   pub bad : r < length table / 4 → wellAt S H table r ≡ false
 
-module _ {S : Setting} {H : Heap} {structs types cells : List ℕ} (hs : HoldsSetting S structs types) (hh : HoldsHeap H cells)
+module _ {S : Setting} {H : Heap} {structs types cells : List ℕ} (hs : SettingCoded S structs types) (hh : HoldsHeap H cells)
     (table : List ℕ) where
   -- row i after the look at it
   data Rows (i : ℕ) : Looking → Type 0 where

@@ -28,13 +28,13 @@ use Rattle.judge.specs.Addresses.{entries}
 use Rattle.judge.specs.Marks.{Seen}
 use Rattle.judge.specs.Literals as model
 use Rattle.judge.specs.Literals.{Looking, on, off, span, thenLook}
-use Rattle.judge.proofs.HeldTables.{HoldsSetting, HoldsHeap, literalAt}
+use Rattle.judge.proofs.HeldTables.{SettingCoded, HoldsHeap, literalAt}
 use Rattle.judge.proofs.Shapes.{span-base, span-size}
 use Rattle.judge.proofs.MarkLaws.{HasMark, Plain, Queued, queued-still, queued-from, Grown}
 use Rattle.judge.proofs.ReachLaws.{Fit}
 use Rattle.judge.proofs.LookLaws.{Needed, Closed, closed-still, Looks, looks-on, looks-off, right-kind, looks}
 
-module _ {S : Setting} {H : Heap} {structs types cells : List ℕ} (hs : HoldsSetting S structs types) (hh : HoldsHeap H cells) where
+module _ {S : Setting} {H : Heap} {structs types cells : List ℕ} (hs : SettingCoded S structs types) (hh : HoldsHeap H cells) where
   -- the words that entry j needs are marked
   abbrev ClosedEntry : List ℕ → ℕ → Type 0
   ClosedEntry marks j = Closed structs types cells marks (entryAt cells j 1) (entryAt cells j 2)

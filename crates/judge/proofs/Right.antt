@@ -19,7 +19,7 @@ use Rattle.judge.specs.Literals.{firstBad}
 use Rattle.judge.specs.Addresses.{entries}
 use Rattle.judge.specs.Nodes.{Judging}
 use Rattle.judge.specs.Script.{asJudged, asVerdict, judgedScript}
-use Rattle.judge.proofs.HeldTables.{HoldsSetting, HoldsHeap}
+use Rattle.judge.proofs.HeldTables.{SettingCoded, HoldsHeap}
 use Rattle.judge.proofs.Entries.{entries-rows, holds-heap}
 use Rattle.judge.proofs.PassLaws.{FirstBad, first-bad}
 use Rattle.judge.proofs.NodeLaws.{bounds-none, Meets, meets-good, meets-bad, meets}
@@ -33,7 +33,7 @@ code-of (κ ∷ ts) (suc n) = code-of ts n
 
 module _ {words : ℕ} {c : Content} {structs types cells table marks queue bound : List ℕ}
     (h : Held c structs types cells table) (r : Readied words c marks queue bound) where
-  holds-setting : HoldsSetting (settingOf words c) structs types
+  holds-setting : SettingCoded (settingOf words c) structs types
   holds-setting =
       record {
         count = h .structs-held .count;

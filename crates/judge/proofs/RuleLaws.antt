@@ -32,7 +32,7 @@ use Rattle.judge.specs.Rules as model
 use Rattle.judge.specs.Rules.{thenTold}
 use Rattle.judge.specs.declared.NodeTold.{NodeTold}
 use Rattle.judge.specs.declared.NodeTold.the-variants as told
-use Rattle.judge.proofs.HeldTables.{HoldsSetting}
+use Rattle.judge.proofs.HeldTables.{SettingCoded}
 use Rattle.judge.proofs.Shapes.{Shape, shape-int, shape-word, shape-struct, shape-array, shape, Side, even, odd, side}
 use Rattle.judge.proofs.Shapes.{kind-int, kind-word, kind-struct, kind-array}
 
@@ -115,7 +115,7 @@ int-code : {κ : Kind} → Small κ → eqb (packed κ) 1 ≡ sameKind κ Int
 unfolding packed
 int-code s = sym (same-code s small-int)
 
-module _ {S : Setting} {structs types : List ℕ} (h : HoldsSetting S structs types) (m : Mode) (i : ℕ) where
+module _ {S : Setting} {structs types : List ℕ} (h : SettingCoded S structs types) (m : Mode) (i : ℕ) where
   -- an access through a pointer
   access-code : (code : ℕ) → ToldRight (definition.accessRule S m i (unpacked code) good) (model.accessTold types m i code)
   unfolding model.accessTold

@@ -15,7 +15,7 @@ use Rattle.calculus.specs.Setting.{Setting, fieldsOf, size, wordKind, checkedPo
 use Rattle.calculus.specs.Literal.{isBase}
 use Rattle.judge.specs.Tables.{tagIn, sizeOf}
 use Rattle.judge.specs.Literals.{span, claim}
-use Rattle.judge.proofs.HeldTables.{HoldsSetting}
+use Rattle.judge.proofs.HeldTables.{SettingCoded}
 
 -- which kind a code is of
 pub data Shape (code : ℕ) : Type 0 where
@@ -74,7 +74,7 @@ empty-words : (k : ℕ) (t : Bool) → choose {A = ℕ} t (λ _. 0) (λ _. k) �
 empty-words zero t = no-words t
 empty-words (suc k) t = rw eqb·suc-zero
 
-module _ {S : Setting} {structs types : List ℕ} (h : HoldsSetting S structs types) where
+module _ {S : Setting} {structs types : List ℕ} (h : SettingCoded S structs types) where
   -- the words that a target covers
   pub size-of : (code : ℕ) → sizeOf structs code ≡ size S (unpacked code)
   unfolding sizeOf size
