@@ -6,22 +6,23 @@ use Rattle.cells.specs.declared.Mode.{Mode}
 use Rattle.cells.specs.declared.Mode.the-variants.{Checked}
 use Rattle.cells.specs.declared.Cell.{Cell}
 use Rattle.calculus.specs.Setting.{Setting}
-use Rattle.calculus.specs.Expr.{Expr, lit, bind, one, two, One, Two}
-use Rattle.calculus.specs.Judge.{inside}
-use Rattle.calculus.specs.Steps.{Step, done, stuck, halt, next, Halt, step, frame}
+use Rattle.calculus.specs.Expr.{Expr, lit, bind, one, two, One, act, inside}
+use Rattle.calculus.specs.Steps.{Step, done, stuck, halt, next, step, frame}
+use Rattle.calculus.specs.declared.Act.{Act}
+use Rattle.calculus.specs.declared.Halt.{Halt}
 
 -- a node with a hole for the part that is evaluated, and contexts, the innermost node first
 pub data Hole : Type 0 where
   in-one : One → Hole
   in-bound : Expr → Hole
-  in-left : Two → Expr → Hole
-  in-right : Two → Cell → Hole
+  in-left : Act → Expr → Hole
+  in-right : Act → Cell → Hole
 
 abbrev pub plug : Hole → Expr → Expr
 plug (in-one o) e = one o e
 plug (in-bound b) e = bind e b
-plug (in-left o b) e = two o e b
-plug (in-right o c) e = two o (lit (c .value) (c .kind)) e
+plug (in-left o b) e = two (act o) e b
+plug (in-right o c) e = two (act o) (lit (c .value) (c .kind)) e
 
 abbrev pub plugs : List Hole → Expr → Expr
 plugs [] e = e
@@ -75,8 +76,8 @@ module _ (S : Setting) (H : Heap) where
   unfolding step
   split (in-one o) m e q b = rw q (frame-busy (one o) _ b)
   split (in-bound b′) m e q b = rw q (frame-busy (λ a′. bind a′ b′) _ b)
-  split (in-left o b′) m e q b = rw q (frame-busy (λ a′. two o a′ b′) _ b)
-  split (in-right o c) m e q b = rw q (frame-busy (two o (lit (c .value) (c .kind))) _ b)
+  split (in-left o b′) m e q b = rw q (frame-busy (λ a′. two (act o) a′ b′) _ b)
+  split (in-right o c) m e q b = rw q (frame-busy (two (act o) (lit (c .value) (c .kind))) _ b)
 
   pub context : (K : List Hole) (e : Expr) {s : Step} → step S (under K) H e ≡ s → Busy s → step S Checked H (plugs K e) ≡ carry (plugs K) s
   context [] e q b = q ∙ carry-none b

@@ -4,38 +4,68 @@ use mathlib.Core.List.{List, [], _∷_}
 use Prim.Native.Nat.{ℕ, zero, suc, _+_, _*_, _/_, _≤_, _<_}
 use native.Mathlib.Omega.{arith}
 use native.Mathlib.Decide.{decLt}
-use lib.Dec.{ltb}
+use lib.Dec.{leb, ltb}
 use lib.ListN.{length, getD, set, length-set, List·getD-eq-default}
 use lib.Seq.{getD-set-same, getD-set-other}
 use borrow.Author.Tests.{lt-ltb, le-ltb}
 use Rattle.choice.specs.Choice.{choose-case}
 use Rattle.cells.specs.Lent.{lentNumber, putWord}
-use Rattle.machine.specs.Tables.{rowAt, framed, kept}
+use Rattle.calculus.specs.Operations.{operationOf}
+use Rattle.calculus.specs.Run.{outcomeOf}
+use Rattle.calculus.specs.declared.End.the-variants.{Halted}
+use Rattle.calculus.specs.declared.Halt.{Halt}
+use Rattle.calculus.specs.declared.Operation.{Operation}
+use Rattle.calculus.specs.declared.Operation.the-variants.{Literal}
+use Rattle.image.specs.Tabled.{Row}
+use Rattle.machine.specs.declared.State.{State}
+use Rattle.machine.specs.declared.Turn.{Turn}
+use Rattle.machine.specs.declared.Yield.{Yield}
+use Rattle.machine.specs.declared.Turn.the-variants.{Goes, Ends}
+use Rattle.machine.specs.States.{firstIn, more, halt, contracted, leaving, yielding, heapBy, settled}
+use Rattle.machine.specs.Tables.{inRow, node, nodeAt, framed, kept}
 
 -- ---- a row by the one test that finds it
-pub row-here : (t : List ℕ) (i j : ℕ) → i < length t / 4 → rowAt t i j ≡ getD t (4 * i + j) 0
-unfolding rowAt
+pub row-here : (t : List ℕ) (i j : ℕ) → i < length t / 4 → inRow t i j ≡ getD t (4 * i + j) 0
+unfolding inRow
 row-here t i j l = rw (lt-ltb i (length t / 4) l)
 
-pub row-none : (t : List ℕ) (i j : ℕ) → length t / 4 ≤ i → rowAt t i j ≡ 0
-unfolding rowAt
+pub row-none : (t : List ℕ) (i j : ℕ) → length t / 4 ≤ i → inRow t i j ≡ 0
+unfolding inRow
 row-none t i j l = rw (le-ltb i (length t / 4) l)
 
--- a row with a number that is not 0 is there
-pub row-there : (t : List ℕ) (i j : ℕ) → (rowAt t i j ≡ 0 → ⊥) → i < length t / 4
-row-there t i j n = go (decLt i (length t / 4))
+-- a node that is no literal is there: past the end the code is 0
+pub node-there : (t : List ℕ) (i : ℕ) → (nodeAt t i .operation ≡ Literal → ⊥) → i < length t / 4
+unfolding nodeAt operationOf
+node-there t i n = go (decLt i (length t / 4))
   where
     go : Dec (i < length t / 4) → i < length t / 4
     go (yes l) = l
-    go (no m) = absurd (n (row-none t i j (omega arith)))
+    go (no m) = absurd (n (rw (row-none t i 0 (omega arith))))
 
--- in a table of whole rows it is the number at its place
-pub row-whole : (t : List ℕ) (n i j : ℕ) → length t ≡ 4 * n → j < 4 → rowAt t i j ≡ getD t (4 * i + j) 0
+-- in a table of whole rows it is the number at its place, and a node is as its row says
+row-whole : (t : List ℕ) (n i j : ℕ) → length t ≡ 4 * n → j < 4 → inRow t i j ≡ getD t (4 * i + j) 0
 row-whole t n i j e l = go (decLt i (length t / 4))
   where
-    go : Dec (i < length t / 4) → rowAt t i j ≡ getD t (4 * i + j) 0
+    go : Dec (i < length t / 4) → inRow t i j ≡ getD t (4 * i + j) 0
     go (yes h) = row-here t i j h
     go (no m) = row-none t i j (omega arith) ∙ sym (List·getD-eq-default t 0 {n = 4 * i + j} (omega arith))
+
+pub node-whole : {t : List ℕ} {i : ℕ} {o : Operation} {argument kind second : ℕ} (n : ℕ) → length t ≡ 4 * n → Row t i o argument kind second
+    → nodeAt t i ≡ node o argument kind second
+unfolding nodeAt
+node-whole {t} {i} n e r =
+    let z : 4 * i + 0 ≡ 4 * i = omega arith in
+    rw (
+      row-whole t n i 0 e (omega arith),
+      row-whole t n i 1 e (omega arith),
+      row-whole t n i 2 e (omega arith),
+      row-whole t n i 3 e (omega arith),
+      z,
+      r .operation-is,
+      r .argument-is,
+      r .kind-is,
+      r .second-is,
+    )
 
 pub framed-here : (t : List ℕ) (i node inside : ℕ) → i < length t / 4
     → framed t i node inside ≡ set (set (set (set t (4 * i) node) (4 * i + 1) inside) (4 * i + 2) 0) (4 * i + 3) 0
@@ -86,16 +116,16 @@ length-kept t i value code =
 
 -- the four numbers of a row
 pub record Four (t : List ℕ) (i a b c d : ℕ) : Type 0 where
-  pub first-is : rowAt t i 0 ≡ a
-  pub second-is : rowAt t i 1 ≡ b
-  pub third-is : rowAt t i 2 ≡ c
-  pub fourth-is : rowAt t i 3 ≡ d
+  pub first-is : inRow t i 0 ≡ a
+  pub second-is : inRow t i 1 ≡ b
+  pub third-is : inRow t i 2 ≡ c
+  pub fourth-is : inRow t i 3 ≡ d
 
 -- rows below h are as they were
-pub record Below (h : ℕ) (t t′ : List ℕ) : Type 0 where
-  pub row-same : (i j : ℕ) → i < h → j < 4 → rowAt t′ i j ≡ rowAt t i j
+pub record SameBelow (h : ℕ) (t t′ : List ℕ) : Type 0 where
+  pub row-same : (i j : ℕ) → i < h → j < 4 → inRow t′ i j ≡ inRow t i j
 
-pub four-below : {h i a b c d : ℕ} {t t′ : List ℕ} → Below h t t′ → i < h → Four t i a b c d → Four t′ i a b c d
+pub four-below : {h i a b c d : ℕ} {t t′ : List ℕ} → SameBelow h t t′ → i < h → Four t i a b c d → Four t′ i a b c d
 four-below {i = i} s l f =
     record {
       first-is = s .row-same i 0 l (omega arith) ∙ f .first-is;
@@ -104,8 +134,8 @@ four-below {i = i} s l f =
       fourth-is = s .row-same i 3 l (omega arith) ∙ f .fourth-is;
     }
 
-below : (t t′ : List ℕ) (h : ℕ) → length t′ ≡ length t → ((k : ℕ) → k < 4 * h → getD t′ k 0 ≡ getD t k 0) → Below h t t′
-unfolding rowAt
+below : (t t′ : List ℕ) (h : ℕ) → length t′ ≡ length t → ((k : ℕ) → k < 4 * h → getD t′ k 0 ≡ getD t k 0) → SameBelow h t t′
+unfolding inRow
 below t t′ h e same = record { row-same = λ i j l m. rw (e, same (4 * i + j) (omega arith)) }
 
 -- the numbers of a frame are put one behind the other
@@ -119,7 +149,7 @@ abbrev put₃ : List ℕ → (i node inside : ℕ) → List ℕ
 put₃ t i node inside = set (put₂ t i node inside) (4 * i + 2) 0
 
 module _ (t : List ℕ) (i node inside : ℕ) where
-  pub framed-below : Below i t (framed t i node inside)
+  pub framed-below : SameBelow i t (framed t i node inside)
   framed-below = below t (framed t i node inside) i (length-framed t i node inside) (λ k l. go k l (decLt i (length t / 4)))
     where
       go : (k : ℕ) → k < 4 * i → Dec (i < length t / 4) → getD (framed t i node inside) k 0 ≡ getD t k 0
@@ -131,7 +161,7 @@ module _ (t : List ℕ) (i node inside : ℕ) where
           ∙ getD-set-other t (4 * i) k node 0 (omega arith))
       go k l (no n) = rw (framed-none t i node inside (omega arith))
 
-  row-put : (j : ℕ) → i < length t / 4 → rowAt (framed t i node inside) i j ≡ getD (set (put₃ t i node inside) (4 * i + 3) 0) (4 * i + j) 0
+  row-put : (j : ℕ) → i < length t / 4 → inRow (framed t i node inside) i j ≡ getD (set (put₃ t i node inside) (4 * i + 3) 0) (4 * i + j) 0
   row-put j h =
       let long = length-framed t i node inside in
       row-here (framed t i node inside) i j (omega arith) ∙ rw (framed-here t i node inside h)
@@ -167,16 +197,16 @@ module _ (t : List ℕ) (i value code : ℕ) where
           ∙ getD-set-other t (4 * i + 2) k value 0 (omega arith))
       go (no n) = rw (kept-none t i value code (omega arith))
 
-  pub kept-below : Below i t (kept t i value code)
+  pub kept-below : SameBelow i t (kept t i value code)
   kept-below = below t (kept t i value code) i (length-kept t i value code) (λ k l. before-kept k (omega arith))
 
   -- the node and its mode stay, and the value is found again
-  row-before : (j : ℕ) → j < 2 → rowAt (kept t i value code) i j ≡ rowAt t i j
-  unfolding rowAt
+  row-before : (j : ℕ) → j < 2 → inRow (kept t i value code) i j ≡ inRow t i j
+  unfolding inRow
   row-before j l = rw (length-kept t i value code, before-kept (4 * i + j) (omega arith))
 
   row-after : (j : ℕ) → i < length t / 4
-      → rowAt (kept t i value code) i j ≡ getD (set (set t (4 * i + 2) value) (4 * i + 3) code) (4 * i + j) 0
+      → inRow (kept t i value code) i j ≡ getD (set (set t (4 * i + 2) value) (4 * i + 3) code) (4 * i + j) 0
   row-after j h =
       let long = length-kept t i value code in
       row-here (kept t i value code) i j (omega arith) ∙ rw (kept-here t i value code h)
@@ -193,7 +223,7 @@ module _ (t : List ℕ) (i value code : ℕ) where
       }
 
 -- ---- bound values, in words
-pub record Word (t : List ℕ) (a value code : ℕ) : Type 0 where
+pub record BoundWord (t : List ℕ) (a value code : ℕ) : Type 0 where
   pub value-is : lentNumber t a 0 ≡ value
   pub code-is : lentNumber t a 1 ≡ code
 
@@ -207,7 +237,7 @@ module _ (t : List ℕ) (i value code : ℕ) where
   unfolding lentNumber
   number-put j k h l = rw (put-whole h, length-set, length-set, lt-ltb j (length t / 2) l)
 
-  pub word-same : i < length t / 2 → Word (putWord t (suc i) value code) (suc i) value code
+  pub word-same : i < length t / 2 → BoundWord (putWord t (suc i) value code) (suc i) value code
   word-same h =
       let e : 2 * i + 0 ≡ 2 * i = omega arith in
       record {
@@ -226,9 +256,23 @@ module _ (t : List ℕ) (i value code : ℕ) where
       ∙ getD-set-other t (2 * i) (2 * j + k) value 0 (omega arith)
       ∙ rw (lt-ltb j (length t / 2) (omega arith))
 
-  pub word-other : {v c : ℕ} (j : ℕ) → j < i → i < length t / 2 → Word t (suc j) v c → Word (putWord t (suc i) value code) (suc j) v c
+  pub word-other : {v c : ℕ} (j : ℕ) → j < i → i < length t / 2 → BoundWord t (suc j) v c → BoundWord (putWord t (suc i) value code) (suc j) v c
   word-other j l h w =
       record {
         value-is = number-other j 0 l (omega arith) h ∙ w .value-is;
         code-is = number-other j 1 l (omega arith) h ∙ w .code-is;
       }
+
+-- ---- the heap where a transition ends the run, or leaves it as it is
+heap-same : (t : Turn) (ws : List ℕ) → heapBy t ws ws ≡ ws
+heap-same (Goes s) ws = refl
+heap-same (Ends o) ws = refl
+
+pub settled-same : (limit : ℕ) (s : State) (y : Yield) (ws : List ℕ) → leaving (contracted limit s y) ws ≡ settled limit s ws (yielding y ws)
+unfolding settled
+settled-same limit s y ws = rw (heap-same (contracted limit s y) ws)
+
+pub halt-kept : (limit : ℕ) (s : State) (h : Halt) (ws ws′ : List ℕ) → heapBy (halt limit s h) ws ws′ ≡ ws
+halt-kept limit s h ws ws′ =
+    choose-case (λ (t : Turn). heapBy t ws ws′ ≡ ws) (leb limit (s .steps)) (λ _. more s)
+    (λ _. Ends (outcomeOf (Halted h) (s .steps + 1) (firstIn s))) refl refl

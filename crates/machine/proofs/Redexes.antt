@@ -1,4 +1,4 @@
--- The rules on codes are the definition's rules on the kinds that have them, rule by rule; and what the machine holds of the heap.
+-- What nodes give on codes is what the definition's redexes give on the kinds that have them; and what the machine holds of the heap.
 use mathlib.Core.Path.{_≡_, refl, _∙_}
 use mathlib.Core.Bool.{Bool, true, false}
 use mathlib.Core.List.{List, [], _∷_, map}
@@ -7,12 +7,12 @@ use native.Mathlib.Omega.{arith}
 use native.Mathlib.Decide.{decLe, decLt}
 use lib.Dec.{eqb, leb, ltb}
 use lib.ListN.{length, getD, List·getD-eq-default}
-use borrow.Author.Tests.{le-leb, lt-leb, lt-ltb, le-ltb, ne-eqb}
-use Rattle.choice.specs.Choice.{choose, both}
+use borrow.Author.Tests.{le-leb, lt-leb, lt-ltb, le-ltb, ltb-true, ltb-false}
+use Rattle.choice.specs.Choice.{choose, choose-told, both}
 use Rattle.cells.specs.Code.{modeNumber, packed, Small, small-int, small-word, small-struct, small-array}
 use Rattle.cells.specs.Heap.{Heap, look, update, undefined, SmallWord, small-held, SmallHeap}
 use Rattle.cells.specs.Free.{lowestIn}
-use Rattle.cells.specs.Lent.{lent, stored, lowestRun}
+use Rattle.cells.specs.Lent.{lent, wordAt, stored, lowestRun}
 use Rattle.cells.specs.declared.Mode.{Mode}
 use Rattle.cells.specs.declared.Mode.the-variants.{Checked, Unchecked}
 use Rattle.cells.specs.declared.Kind.{Kind}
@@ -20,20 +20,27 @@ use Rattle.cells.specs.declared.Kind.the-variants.{Int, Word, Struct, Array}
 use Rattle.cells.specs.declared.Cell.{Cell}
 use Rattle.cells.specs.declared.HeapWord.{HeapWord}
 use Rattle.cells.specs.declared.HeapWord.the-variants.{Undefined, Holds}
-use Rattle.cells.proofs.Codes.{packed-not-zero}
+use Rattle.cells.proofs.Codes.{round-trip}
 use Rattle.cells.proofs.Heaps.{length-update, small-update, undefined-update}
 use Rattle.cells.proofs.View.{word-lent, stored-lent, lowest-lent}
 use Rattle.cells.proofs.Free.{Vacant, Lowest, lowest-from, vacant-before}
-use Rattle.calculus.specs.Setting.{cell, size, wordKind, isChecked, checkedPointer, checkedEmpty}
-use Rattle.calculus.specs.Steps.{null, bounds, blocked, halts, gives, fallen, checkedArray, definedThen, wordThen, sumRedex, fieldRedex, zeroed}
-use Rattle.calculus.specs.Steps as steps
-use Rattle.image.specs.Content.{Tables, settingOf}
-use Rattle.image.specs.Tabled.{HeldStructs}
-use Rattle.machine.specs.declared.Redex.{Redex}
-use Rattle.machine.specs.declared.Redex.the-variants.{Gives, Null, Bounds, Blocked}
-use Rattle.machine.specs.declared.Room.{Room}
-use Rattle.machine.specs.States.{room}
-use Rattle.machine.specs.Rules.{heldOf, heldRedex, readRedex, sumRule, fieldCount, fieldType, structField, fieldRule}
+use Rattle.calculus.specs.Setting.{Setting, cell, size, wordKind, isChecked, checkedPointer, checkedEmpty}
+use Rattle.calculus.specs.Expr.{One, unchecked, cast, read, field}
+use Rattle.calculus.specs.Steps.{Redex, blocked, halts, gives, fallen, checkedArray, definedThen, wordThen, sumRedex, fieldRedex, oneRedex, actRedex, zeroed}
+use Rattle.calculus.specs.declared.Act.{Act}
+use Rattle.calculus.specs.declared.Act.the-variants.{Assign, Sum}
+use Rattle.calculus.specs.declared.Halt.{Halt}
+use Rattle.calculus.specs.declared.Halt.the-variants.{Null, Bounds}
+use Rattle.image.specs.Shape.{SmallOne, small-cast}
+use Rattle.image.specs.Tabled.{HeldStructs, oneOperation, oneArgument, oneKind}
+use Rattle.machine.specs.declared.Hint.{Hint}
+use Rattle.machine.specs.declared.State.{State}
+use Rattle.machine.specs.declared.Terms.{Terms}
+use Rattle.machine.specs.declared.Yield.{Yield}
+use Rattle.machine.specs.declared.Yield.the-variants.{Gives, Halts, Blocked}
+use Rattle.machine.specs.States.{hint}
+use Rattle.machine.specs.Yields.{heldOf, behindWords, heldYield, readYield, fieldCount, fieldType}
+use Rattle.machine.specs.Yields.{structField, fieldYield, oneYield, sumYield, assignedBy, assigned, acted}
 use Rattle.machine.specs.Malloc.{sizeIn, typeIn, zeros, startAt}
 
 -- ---- the parts of a code
@@ -117,12 +124,25 @@ empty-code κ s = rw (array-code κ s, parts-of s .counted) (go κ)
     go (Array Checked k n) = refl
     go (Array Unchecked k n) = refl
 
--- ---- what a redex comes to is what the definition's comes to, the heap being as it was
-pub data Acts (H : Heap) : Redex → steps.Redex → Type 0 where
-  a-blocked : Acts H Blocked blocked
-  a-null : Acts H Null (halts null)
-  a-bounds : Acts H Bounds (halts bounds)
-  a-gives : {c : Cell} → Small (c .kind) → Acts H (Gives (c .value) (packed (c .kind))) (gives H (c .value) (c .kind))
+-- ---- what a step makes of a heap: as many words, whose kinds fit their codes, and none undefined that was not
+pub record NextHeap (H H′ : Heap) : Type 0 where
+  pub small : SmallHeap H′
+  pub long : length H′ ≡ length H
+  pub fewer : (b : ℕ) → undefined (look H′ b) ≡ true → undefined (look H b) ≡ true
+
+same-heap : {H : Heap} → SmallHeap H → NextHeap H H
+same-heap s = record { small = s; long = refl; fewer = λ b h. h }
+
+updated : {H : Heap} (a : ℕ) (c : Cell) → SmallHeap H → Small (c .kind) → NextHeap H (update H a c)
+updated {H} a c s k =
+    record { small = small-update H a c s k; long = length-update H a c; fewer = λ b. undefined-update H a b c }
+
+-- what a node gives, and the heap ws′ that its step leaves, are what the definition's redex gives over H in the numbers ws
+pub data Matches (H : Heap) (ws ws′ : List ℕ) : Yield → Redex → Type 0 where
+  m-blocked : Matches H ws ws′ Blocked blocked
+  m-halts : {h : Halt} → Matches H ws ws′ (Halts h) (halts h)
+  m-gives : {c : Cell} {H′ : Heap} → ws′ ≡ lent H′ ws → NextHeap H H′ → Small (c .kind)
+      → Matches H ws ws′ (Gives (c .value) (packed (c .kind))) (gives H′ (c .value) (c .kind))
 
 small-fallen : (κ : Kind) (k : ℕ) → Small κ → Small (fallen κ k)
 small-fallen Int k s = s
@@ -155,17 +175,13 @@ look-past H zero l = refl
 look-past H (suc i) l = List·getD-eq-default H Undefined {n = i} (omega arith)
 
 -- a word that is defined is one of the heap's
-pub record Within (H : Heap) (a : ℕ) : Type 0 where
-  pub above : 0 < a
-  pub below : a ≤ length H
-
-pub within : (H : Heap) (a : ℕ) (c : Cell) → look H a ≡ Holds c → Within H a
+in-heap : (H : Heap) (a : ℕ) (c : Cell) → look H a ≡ Holds c → a ≤ length H
 unfolding look
-within H zero c e = let z : _≡_ {A = ℕ} 0 1 = cc in absurd (omega arith)
-within H (suc i) c e = go (decLe (suc i) (length H))
+in-heap H zero c e = omega arith
+in-heap H (suc i) c e = go (decLe (suc i) (length H))
   where
-    go : Dec (suc i ≤ length H) → Within H (suc i)
-    go (yes l) = record { above = omega arith; below = l }
+    go : Dec (suc i ≤ length H) → suc i ≤ length H
+    go (yes l) = l
     go (no n) =
         let q : getD H i Undefined ≡ Undefined = List·getD-eq-default H Undefined {n = i} (omega arith) in
         let z : _≡_ {A = ℕ} 0 1 = cc in
@@ -178,190 +194,242 @@ type-at [] n = refl
 type-at (τ ∷ τs) zero = refl
 type-at (τ ∷ τs) (suc n) = type-at τs n
 
--- the tables in lent numbers, and room for the heap's words
-pub record Loaded (t : Tables) (words : ℕ) (ws structs types : List ℕ) : Type 0 where
-  pub structs-held : HeldStructs structs (t .structs)
-  pub types-held : types ≡ map packed (t .types)
-  pub fields-small : (s i : ℕ) → getD (getD (t .structs) s []) i 0 < 256
-  pub types-small : (n : ℕ) → Small (getD (t .types) n Int)
-  pub heap-room : 2 * words ≤ length ws
-  pub words-few : words ≤ 4096
+-- what a read or an assign at v comes to by its tests, whatever is then done with the word
+data Tested (H : Heap) (v : ℕ) : Yield → ((Cell → Redex) → Redex) → Type 0 where
+  t-blocked : Tested H v Blocked (λ go. blocked)
+  t-halts : {h : Halt} → Tested H v (Halts h) (λ go. halts h)
+  t-word : {c : Cell} → look H v ≡ Holds c → Tested H v (Gives (c .value) (packed (c .kind))) (λ go. go c)
 
--- ---- words are never freed: no run of a room's size, or of more, starts below it
-pub record Hint (H : Heap) (r : Room) : Type 0 where
-  pub low : 1 ≤ r .from
-  pub none : (k s : ℕ) → r .size ≤ k → 1 ≤ s → s < r .from → Vacant (λ a. undefined (look H a)) k s → ⊥
-
-hint-fewer : {H H′ : Heap} {r : Room} → ((b : ℕ) → undefined (look H′ b) ≡ true → undefined (look H b) ≡ true) → Hint H r → Hint H′ r
-hint-fewer h t = record { low = t .low; none = λ k s l m n v. t .none k s l m n (vacant-before _ k 0 _ k s (omega arith) h v) }
-
-pub hint-update : {H : Heap} {r : Room} (a : ℕ) (c : Cell) → Hint H r → Hint (update H a c) r
-hint-update {H} a c t = hint-fewer (λ b. undefined-update H a b c) t
-
--- a search may start where the room says
-pub hint-start : {H : Heap} {r : Room} (k high : ℕ) → Hint H r
-    → lowestIn (λ a. undefined (look H a)) k (startAt r k) high ≡ lowestIn (λ a. undefined (look H a)) k 1 high
-hint-start {H} {r} k high t = go (decLe (r .size) k)
+small-cell : {w : HeapWord} {c : Cell} → w ≡ Holds c → SmallWord w → Small (c .kind)
+small-cell {c = c} e s = go (rw e at s)
   where
-    go : Dec (r .size ≤ k) → lowestIn (λ a. undefined (look H a)) k (startAt r k) high ≡ lowestIn (λ a. undefined (look H a)) k 1 high
-    go (yes l) = rw (le-leb (r .size) k l) (lowest-from _ k high 1 (r .from) (t .low) (λ s. t .none k s l))
+    go : SmallWord (Holds c) → Small (c .kind)
+    go (small-held k) = k
+
+-- the setting's tables in lent numbers, its terms, and room for the heap's words
+pub record Loaded (S : Setting) (T : Terms) (ws structs types : List ℕ) : Type 0 where
+  pub structs-held : HeldStructs structs (S .structs)
+  pub types-held : types ≡ map packed (S .types)
+  pub fields-small : (s i : ℕ) → getD (getD (S .structs) s []) i 0 < 256
+  pub types-small : (n : ℕ) → Small (getD (S .types) n Int)
+  pub width-is : S .width ≡ 32
+  pub low-is : S .low ≡ T .low
+  pub high-is : S .high ≡ T .high
+  pub low-above : 0 < T .low
+  pub high-within : T .high ≤ T .words
+  pub heap-room : 2 * T .words ≤ length ws
+  pub words-few : T .words ≤ 4096
+
+-- ---- words are never freed: no run of a hint's size, or of more, starts from the lowest address on and below the hint
+pub record HintRight (H : Heap) (low : ℕ) (r : Hint) : Type 0 where
+  pub from-low : low ≤ r .from
+  pub none : (k s : ℕ) → r .size ≤ k → low ≤ s → s < r .from → Vacant (λ a. undefined (look H a)) k s → ⊥
+
+pub hint-next : {H H′ : Heap} {low : ℕ} {r : Hint} → NextHeap H H′ → HintRight H low r → HintRight H′ low r
+hint-next n t =
+    record { from-low = t .from-low; none = λ k s l m b v. t .none k s l m b (vacant-before _ k 0 _ k s (omega arith) (n .fewer) v) }
+
+-- a search may start where the hint says
+hint-start : {H : Heap} {low : ℕ} {r : Hint} (k high : ℕ) → HintRight H low r
+    → lowestIn (λ a. undefined (look H a)) k (startAt r k low) high ≡ lowestIn (λ a. undefined (look H a)) k low high
+hint-start {H} {low} {r} k high t = go (decLe (r .size) k)
+  where
+    go : Dec (r .size ≤ k) → lowestIn (λ a. undefined (look H a)) k (startAt r k low) high ≡ lowestIn (λ a. undefined (look H a)) k low high
+    go (yes l) = rw (le-leb (r .size) k l) (lowest-from _ k high low (r .from) (t .from-low) (λ s. t .none k s l))
     go (no n) = rw (lt-leb (r .size) k (omega arith))
 
 -- no run of that size starts below the lowest
-hint-lowest : {H : Heap} {k high a : ℕ} → Lowest (λ b. undefined (look H b)) k 1 high a → Hint H (room k a)
+hint-lowest : {H : Heap} {k low high a : ℕ} → Lowest (λ b. undefined (look H b)) k low high a → HintRight H low (hint k a)
 hint-lowest {k = k} l =
-    record { low = l .from; none = λ k′ s m p n v. l .first s p n (vacant-before _ k 0 _ k′ s m (λ b h. h) v) }
+    record { from-low = l .from; none = λ k′ s m p n v. l .first s p n (vacant-before _ k 0 _ k′ s m (λ b h. h) v) }
 
-module _ {t : Tables} {words : ℕ} {ws structs types : List ℕ} (L : Loaded t words ws structs types) where
+module _ {S : Setting} {T : Terms} {ws structs types : List ℕ} (L : Loaded S T ws structs types) (H : Heap) (s : SmallHeap H) (long : length H ≡ T .words) where
+  -- ---- a node that gives a value and leaves the heap as it is
+  gives-on : (c : Cell) → Small (c .kind) → Matches H ws (lent H ws) (Gives (c .value) (packed (c .kind))) (gives H (c .value) (c .kind))
+  gives-on c k = m-gives {c = c} refl (same-heap s) k
+
   -- ---- sums and field addresses
-  pub sum-acts : (H : Heap) (v : ℕ) (κ : Kind) (k : ℕ) → Small κ → Acts H (sumRule v (packed κ) k) (sumRedex (settingOf words t) H v κ k)
-  unfolding sumRule sumRedex
-  sum-acts H v κ k s = rw (array-code κ s) (go (checkedArray κ) (eqb v 0) refl)
+  sum-matches : (v : ℕ) (κ : Kind) (k : ℕ) → Small κ → Matches H ws (lent H ws) (sumYield v (packed κ) k) (sumRedex S H v κ k)
+  unfolding sumYield sumRedex
+  sum-matches v κ k sm = rw (array-code κ sm, L .width-is) (go (checkedArray κ) (eqb v 0) refl)
     where
       go : (a z : Bool) → checkedArray κ ≡ a
-          → Acts H
-          (choose a (λ _. choose z (λ _. Null) (λ _. Gives ((v + k) % 2 ^ 32) (packed κ % 2048 + 2048 * (packed κ / 2048 - k))))
+          → Matches H ws (lent H ws)
+          (choose a (λ _. choose z (λ _. Halts Null) (λ _. Gives ((v + k) % 2 ^ 32) (packed κ % 2048 + 2048 * (packed κ / 2048 - k))))
           (λ _. Gives ((v + k) % 2 ^ 32) (packed κ)))
-          (choose (both a z) (λ _. halts null) (λ _. gives H ((v + k) % 2 ^ 32) (fallen κ k)))
-      go true true e = a-null
-      go true false e = rw (fallen-code κ k s e) (a-gives {c = cell ((v + k) % 2 ^ 32) (fallen κ k)} (small-fallen κ k s))
-      go false z e = rw (fallen-same κ k e) (a-gives {c = cell ((v + k) % 2 ^ 32) κ} s)
+          (choose (both a z) (λ _. halts Null) (λ _. gives H ((v + k) % 2 ^ 32) (fallen κ k)))
+      go true true e = m-halts
+      go true false e = rw (fallen-code κ k sm e) (gives-on (cell ((v + k) % 2 ^ 32) (fallen κ k)) (small-fallen κ k sm))
+      go false z e = rw (fallen-same κ k e) (gives-on (cell ((v + k) % 2 ^ 32) κ) sm)
 
-  struct-acts : (H : Heap) (f v : ℕ) (m : Mode) (s : ℕ)
-      → Acts H (structField structs f v (modeNumber m) s) (fieldRedex (settingOf words t) H f v (Struct m s))
+  struct-matches : (f v : ℕ) (m : Mode) (n : ℕ)
+      → Matches H ws (lent H ws) (structField structs f v (modeNumber m) n) (fieldRedex S H f v (Struct m n))
   unfolding structField fieldRedex packed
-  struct-acts H f v m s = go (decLt f (length (getD (t .structs) s [])))
+  struct-matches f v m n = rw (L .width-is) (go (decLt f (length (getD (S .structs) n []))))
     where
       checked : (m : Mode) → eqb (modeNumber m) 0 ≡ isChecked m
       checked Checked = refl
       checked Unchecked = refl
 
-      given : (b : Bool) (x y : ℕ) → x ≡ y → y < 256
-          → Acts H (choose b (λ _. Null) (λ _. Gives ((v + f) % 2 ^ 32) (2 + modeNumber m + 8 * x)))
-          (choose b (λ _. halts null) (λ _. gives H ((v + f) % 2 ^ 32) (Word m y)))
-      given true x y e l = a-null
-      given false x y e l = rw e (a-gives {c = cell ((v + f) % 2 ^ 32) (Word m y)} (small-word l))
+      reached : (b : Bool) (x y : ℕ) → x ≡ y → y < 256
+          → Matches H ws (lent H ws) (choose b (λ _. Halts Null) (λ _. Gives ((v + f) % 2 ^ 32) (2 + modeNumber m + 8 * x)))
+          (choose b (λ _. halts Null) (λ _. gives H ((v + f) % 2 ^ 32) (Word m y)))
+      reached true x y e l = m-halts
+      reached false x y e l = rw e (gives-on (cell ((v + f) % 2 ^ 32) (Word m y)) (small-word l))
 
-      go : Dec (f < length (getD (t .structs) s []))
-          → Acts H
-          (choose (leb (fieldCount structs s) f) (λ _. Blocked) λ _.
-          choose (both (eqb (modeNumber m) 0) (eqb v 0)) (λ _. Null)
-          (λ _. Gives ((v + f) % 2 ^ 32) (2 + modeNumber m + 8 * (fieldType structs s f % 256))))
-          (choose (ltb f (length (getD (t .structs) s [])))
-          (λ _. choose (both (isChecked m) (eqb v 0)) (λ _. halts null)
-          (λ _. gives H ((v + f) % 2 ^ 32) (Word m (getD (getD (t .structs) s []) f 0))))
+      go : Dec (f < length (getD (S .structs) n []))
+          → Matches H ws (lent H ws)
+          (choose (leb (fieldCount structs n) f) (λ _. Blocked) λ _.
+          choose (both (eqb (modeNumber m) 0) (eqb v 0)) (λ _. Halts Null)
+          (λ _. Gives ((v + f) % 2 ^ 32) (2 + modeNumber m + 8 * (fieldType structs n f % 256))))
+          (choose (ltb f (length (getD (S .structs) n [])))
+          (λ _. choose (both (isChecked m) (eqb v 0)) (λ _. halts Null)
+          (λ _. gives H ((v + f) % 2 ^ 32) (Word m (getD (getD (S .structs) n []) f 0))))
           (λ _. blocked))
       go (yes l) =
-          let small : getD (getD (t .structs) s []) f 0 < 256 = L .fields-small s f in
-          let e : fieldType structs s f ≡ getD (getD (t .structs) s []) f 0 = L .structs-held .fields s f l in
+          let small : getD (getD (S .structs) n []) f 0 < 256 = L .fields-small n f in
+          let e : fieldType structs n f ≡ getD (getD (S .structs) n []) f 0 = L .structs-held .fields n f l in
           rw (
-            L .structs-held .count s,
-            lt-leb (length (getD (t .structs) s [])) f l,
-            lt-ltb f (length (getD (t .structs) s [])) l,
+            L .structs-held .count n,
+            lt-leb (length (getD (S .structs) n [])) f l,
+            lt-ltb f (length (getD (S .structs) n [])) l,
             checked m,
           )
-          (given (both (isChecked m) (eqb v 0)) _ _ (omega (arith, e)) small)
-      go (no n) =
-          rw (L .structs-held .count s, le-leb (length (getD (t .structs) s [])) f (omega arith), le-ltb f (length (getD (t .structs) s [])) (omega arith))
-          a-blocked
+          (reached (both (isChecked m) (eqb v 0)) _ _ (omega (arith, e)) small)
+      go (no l) =
+          rw (L .structs-held .count n, le-leb (length (getD (S .structs) n [])) f (omega arith), le-ltb f (length (getD (S .structs) n [])) (omega arith))
+          m-blocked
 
-  pub field-acts : (H : Heap) (f v : ℕ) (κ : Kind) → Small κ
-      → Acts H (fieldRule structs f v (packed κ)) (fieldRedex (settingOf words t) H f v κ)
-  unfolding fieldRule fieldRedex tagOf modeOf numberOf
-  field-acts H f v Int s = rw (parts-of s .tagged) a-blocked
-  field-acts H f v (Word m n) s = rw (parts-of s .tagged) a-blocked
-  field-acts H f v (Struct m n) s = let p = parts-of s in rw (p .tagged, p .moded, p .numbered) (struct-acts H f v m n)
-  field-acts H f v (Array m k n) s = rw (parts-of s .tagged) a-blocked
+  field-matches : (f v : ℕ) (κ : Kind) → Small κ → Matches H ws (lent H ws) (fieldYield structs f v (packed κ)) (fieldRedex S H f v κ)
+  unfolding fieldYield fieldRedex tagOf modeOf numberOf
+  field-matches f v Int sm = rw (parts-of sm .tagged) m-blocked
+  field-matches f v (Word m n) sm = rw (parts-of sm .tagged) m-blocked
+  field-matches f v (Struct m n) sm = let p = parts-of sm in rw (p .tagged, p .moded, p .numbered) (struct-matches f v m n)
+  field-matches f v (Array m k n) sm = rw (parts-of sm .tagged) m-blocked
 
-  -- ---- reads
-  module _ (H : Heap) (s : SmallHeap H) (long : length H ≡ words) where
-    pub held-same : (a : ℕ) → heldRedex (lent H ws) words a ≡ heldOf (look H a)
-    unfolding heldRedex
-    held-same a = go (decLe a words)
-      where
-        go : Dec (a ≤ words) → heldRedex (lent H ws) words a ≡ heldOf (look H a)
-        go (yes l) = rw (le-ltb words a l, word-lent H ws a s (omega arith))
-        go (no n) = rw (lt-ltb words a (omega arith), look-past H a (omega arith))
+  -- ---- reads and assigns
+  held-same : (a : ℕ) → heldYield (lent H ws) (T .words) a ≡ heldOf (look H a)
+  unfolding heldYield
+  held-same a =
+      choose-told (λ (y : Yield). y ≡ heldOf (look H a)) (behindWords (T .words) a) (λ _. Blocked) (λ _. heldOf (wordAt (lent H ws) a))
+      (λ (t : behindWords (T .words) a ≡ true). rw (look-past H a (omega (arith, ltb-true))))
+      (λ (f : behindWords (T .words) a ≡ false). rw (word-lent H ws a s (omega (arith, ltb-false))))
 
-    pub read-acts : (v : ℕ) (κ : Kind) → Small κ
-        → Acts H (readRedex (lent H ws) words v (packed κ)) (wordThen H v κ (λ d. gives H (d .value) (d .kind)))
-    unfolding readRedex wordThen
-    read-acts v κ k =
-        rw (even-code κ k, empty-code κ k, held-same v) (go (both (checkedPointer κ) (eqb v 0)) (checkedEmpty κ) (look H v) (s .each v))
-      where
-        go : (b b′ : Bool) (w : HeapWord) → SmallWord w
-            → Acts H
-            (choose b (λ _. Null) λ _. choose b′ (λ _. Bounds) (λ _. heldOf w))
-            (choose b (λ _. halts null) λ _. choose b′ (λ _. halts bounds) (λ _. definedThen w (λ d. gives H (d .value) (d .kind))))
-        go true b′ w k = a-null
-        go false true w k = a-bounds
-        go false false Undefined k = a-blocked
-        go false false (Holds d) (small-held k) = a-gives k
+  read-tested : (v : ℕ) (κ : Kind) → Small κ → Tested H v (readYield (lent H ws) (T .words) v (packed κ)) (wordThen H v κ)
+  unfolding readYield wordThen
+  read-tested v κ k =
+      rw (even-code κ k, empty-code κ k, held-same v) (go (both (checkedPointer κ) (eqb v 0)) (checkedEmpty κ) (look H v) refl)
+    where
+      go : (b b′ : Bool) (w : HeapWord) → look H v ≡ w
+          → Tested H v
+          (choose b (λ _. Halts Null) λ _. choose b′ (λ _. Halts Bounds) (λ _. heldOf w))
+          (λ f. choose b (λ _. halts Null) λ _. choose b′ (λ _. halts Bounds) (λ _. definedThen w f))
+      go true b′ w e = t-halts
+      go false true w e = t-halts
+      go false false Undefined e = t-blocked
+      go false false (Holds d) e = t-word e
 
-    -- the tests of an assign are a read's
-    pub read-tests : (v : ℕ) (κ : Kind) → Small κ
-        → readRedex (lent H ws) words v (packed κ)
-        ≡ choose (both (checkedPointer κ) (eqb v 0)) (λ _. Null) λ _. choose (checkedEmpty κ) (λ _. Bounds) (λ _. heldOf (look H v))
-    unfolding readRedex
-    read-tests v κ k = rw (even-code κ k, empty-code κ k, held-same v)
+  read-matches : {v : ℕ} {y : Yield} {then : (Cell → Redex) → Redex} → Tested H v y then
+      → Matches H ws (lent H ws) y (then (λ d. gives H (d .value) (d .kind)))
+  read-matches t-blocked = m-blocked
+  read-matches t-halts = m-halts
+  read-matches {v} (t-word {c} e) = gives-on c (small-cell e (s .each v))
 
+  -- an assign of the cell c, which is in focus
+  assign-matches : {v : ℕ} {y : Yield} {then : (Cell → Redex) → Redex} (at : State) (c : Cell) → at .at ≡ c .value → at .code ≡ packed (c .kind)
+      → Small (c .kind) → Tested H v y then
+      → Matches H ws (assignedBy y (lent H ws) at v .heap) (assignedBy y (lent H ws) at v .yield) (then (λ _. gives (update H v c) (c .value) (c .kind)))
+  assign-matches at c ea ec k t-blocked = m-blocked
+  assign-matches at c ea ec k t-halts = m-halts
+  assign-matches {v} at c ea ec k (t-word {c = d} e) =
+      let es : stored (lent H ws) v c ≡ lent (update H v c) ws =
+      stored-lent H ws v c (in-heap H v d e) (omega (arith, L .heap-room)) in
+      rw (ea, ec, round-trip k) (m-gives {c = c} es (updated v c s k) k)
+
+  -- ---- a node with one part, and an act on two values: here alone an act is looked at
+  pub one-matches : (o : One) (c : Cell) → SmallOne o → Small (c .kind)
+      → Matches H ws (lent H ws) (oneYield structs (T .words) (lent H ws) (c .value) (packed (c .kind)) (oneOperation o) (oneArgument o) (oneKind o))
+      (oneRedex S H o (c .value) (c .kind))
+  unfolding oneYield
+  one-matches unchecked c o k = gives-on c k
+  one-matches (cast κ) c (small-cast o) k = gives-on (cell (c .value) κ) o
+  one-matches read c o k = read-matches (read-tested (c .value) (c .kind) k)
+  one-matches (field f) c o k = field-matches f (c .value) (c .kind) k
+
+  pub act-matches : (o : Act) (at : State) (d c : Cell) → at .at ≡ c .value → at .code ≡ packed (c .kind) → Small (d .kind) → Small (c .kind)
+      → Matches H ws (acted (T .words) (lent H ws) at o (d .value) (packed (d .kind)) .heap)
+      (acted (T .words) (lent H ws) at o (d .value) (packed (d .kind)) .yield)
+      (actRedex S H o (d .value) (d .kind) (c .value) (c .kind))
+  unfolding assigned
+  act-matches Assign at d c ea ec kd kc = assign-matches at c ea ec kc (read-tested (d .value) (d .kind) kd)
+  act-matches Sum at d c ea ec kd kc = rw ea (sum-matches (d .value) (d .kind) (c .value) kd)
+
+module _ {S : Setting} {T : Terms} {ws structs types : List ℕ} (L : Loaded S T ws structs types) where
   -- ---- malloc
-  pub size-same : (κ : Kind) → Small κ → sizeIn structs (packed κ) ≡ size (settingOf words t) κ
+  pub size-same : (κ : Kind) → Small κ → sizeIn structs (packed κ) ≡ size S κ
   unfolding sizeIn size tagOf countOf numberOf
   size-same Int s = rw (parts-of s .tagged)
   size-same (Word m n) s = rw (parts-of s .tagged)
   size-same (Struct m n) s = let p = parts-of s in rw (p .tagged, p .numbered) (L .structs-held .count n)
   size-same (Array m k n) s = let p = parts-of s in rw (p .tagged, p .counted)
 
-  type-same : (κ : Kind) (i : ℕ) → Small κ → i < size (settingOf words t) κ
-      → getD types (typeIn structs (packed κ) i) 1 ≡ packed (wordKind (settingOf words t) κ i)
+  type-same : (κ : Kind) (i : ℕ) → Small κ → i < size S κ → getD types (typeIn structs (packed κ) i) 1 ≡ packed (wordKind S κ i)
   unfolding typeIn size wordKind tagOf numberOf
   type-same Int i s l = absurd (omega arith)
-  type-same (Word m n) i s l = let p = parts-of s in rw (p .tagged, p .numbered, L .types-held) (type-at (t .types) n)
+  type-same (Word m n) i s l = let p = parts-of s in rw (p .tagged, p .numbered, L .types-held) (type-at (S .types) n)
   type-same (Struct m n) i s l =
       let p = parts-of s in
-      rw (p .tagged, p .numbered, L .structs-held .fields n i l, L .types-held) (type-at (t .types) (getD (getD (t .structs) n []) i 0))
-  type-same (Array m k n) i s l = let p = parts-of s in rw (p .tagged, p .numbered, L .types-held) (type-at (t .types) n)
+      rw (p .tagged, p .numbered, L .structs-held .fields n i l, L .types-held) (type-at (S .types) (getD (getD (S .structs) n []) i 0))
+  type-same (Array m k n) i s l = let p = parts-of s in rw (p .tagged, p .numbered, L .types-held) (type-at (S .types) n)
 
-  small-word-kind : (κ : Kind) (i : ℕ) → Small (wordKind (settingOf words t) κ i)
+  small-word-kind : (κ : Kind) (i : ℕ) → Small (wordKind S κ i)
   unfolding wordKind
   small-word-kind Int i = small-int
   small-word-kind (Word m n) i = L .types-small n
-  small-word-kind (Struct m s) i = L .types-small (getD (getD (t .structs) s []) i 0)
+  small-word-kind (Struct m s) i = L .types-small (getD (getD (S .structs) s []) i 0)
   small-word-kind (Array m k n) i = L .types-small n
 
   -- zeros stored word by word are the definition's
   pub record Zeroed (κ : Kind) (k a i : ℕ) (H : Heap) : Type 0 where
-    pub held : zeros structs types (packed κ) k a i (lent H ws) ≡ lent (zeroed (settingOf words t) κ k a i H) ws
-    pub small : SmallHeap (zeroed (settingOf words t) κ k a i H)
-    pub long : length (zeroed (settingOf words t) κ k a i H) ≡ length H
-    pub fewer : (b : ℕ) → undefined (look (zeroed (settingOf words t) κ k a i H) b) ≡ true → undefined (look H b) ≡ true
+    pub held : zeros structs types (packed κ) k a i (lent H ws) ≡ lent (zeroed S κ k a i H) ws
+    pub next : NextHeap H (zeroed S κ k a i H)
 
-  pub zeros-same : (κ : Kind) (k a i : ℕ) (H : Heap) → Small κ → 0 < a → a + k ≤ words + 1 → i + k ≤ size (settingOf words t) κ → i < a
-      → SmallHeap H → length H ≡ words → Zeroed κ k a i H
+  zeros-same : (κ : Kind) (k a i : ℕ) (H : Heap) → Small κ → 0 < a → a + k ≤ T .words + 1 → i + k ≤ size S κ → i < a
+      → SmallHeap H → length H ≡ T .words → Zeroed κ k a i H
   unfolding zeros zeroed stored
-  zeros-same κ zero a i H sm p l n q s w = record { held = refl; small = s; long = refl; fewer = λ b h. h }
+  zeros-same κ zero a i H sm p l n q s w = record { held = refl; next = same-heap s }
   zeros-same κ (suc k) a i H sm p l n q s w =
-      let c : Cell = cell 0 (wordKind (settingOf words t) κ i) in
+      let c : Cell = cell 0 (wordKind S κ i) in
       let few = L .words-few in
-      let next = zeros-same κ k (suc a) (suc i) (update H a c) sm (omega arith) (omega arith) (omega arith) (omega arith)
+      let rest = zeros-same κ k (suc a) (suc i) (update H a c) sm (omega arith) (omega arith) (omega arith) (omega arith)
       (small-update H a c s (small-word-kind κ i)) (length-update H a c ∙ w) in
       let ea : (a + 1) % 2 ^ 64 ≡ suc a = omega arith in
       let ei : (i + 1) % 2 ^ 64 ≡ suc i = omega arith in
       let es : stored (lent H ws) a c ≡ lent (update H a c) ws = stored-lent H ws a c (omega arith) (omega (arith, L .heap-room)) in
       record {
-        held = rw (type-same κ i sm (omega arith), es, ea, ei) (next .held);
-        small = next .small;
-        long = next .long ∙ length-update H a c;
-        fewer = λ b h. undefined-update H a b c (next .fewer b h);
+        held = rw (type-same κ i sm (omega arith), es, ea, ei) (rest .held);
+        next = record {
+          small = rest .next .small;
+          long = rest .next .long ∙ length-update H a c;
+          fewer = λ b h. undefined-update H a b c (rest .next .fewer b h);
+        };
       }
 
-  -- the run found, and what it leaves known of the room
-  pub found-same : (H : Heap) (r : Room) (k : ℕ) → SmallHeap H → length H ≡ words → Hint H r
-      → lowestRun (lent H ws) k (startAt r k) words ≡ lowestIn (λ a. undefined (look H a)) k 1 words
+  -- the run found is the definition's; the words taken, and what that leaves known of the room
+  pub found-same : (H : Heap) (r : Hint) (k : ℕ) → SmallHeap H → length H ≡ T .words → HintRight H (T .low) r
+      → lowestRun (lent H ws) k (startAt r k (T .low)) (T .high) ≡ lowestIn (λ a. undefined (look H a)) k (S .low) (S .high)
   found-same H r k s w t =
-      lowest-lent H ws k (startAt r k) words s (omega (arith, L .heap-room)) (omega arith) ∙ hint-start k words t
+      let fits : T .high ≤ length H = omega (arith, L .high-within) in
+      lowest-lent H ws k (startAt r k (T .low)) (T .high) s (omega (arith, L .heap-room)) fits
+      ∙ hint-start k (T .high) t
+      ∙ rw (L .low-is, L .high-is)
 
-  pub hint-taken : {κ : Kind} {H : Heap} {k a : ℕ} → Lowest (λ b. undefined (look H b)) k 1 words a → Zeroed κ k a 0 H
-      → Hint (zeroed (settingOf words t) κ k a 0 H) (room k a)
-  hint-taken l z = hint-fewer (z .fewer) (hint-lowest l)
+  pub taken-zeros : {κ : Kind} {H : Heap} {a : ℕ} → Small κ → SmallHeap H → length H ≡ T .words
+      → Lowest (λ b. undefined (look H b)) (size S κ) (S .low) (S .high) a → Zeroed κ (size S κ) a 0 H
+  taken-zeros {κ} {H} {a} sm s w l =
+      zeros-same κ (size S κ) a 0 H sm (omega (arith, l .from, L .low-is, L .low-above)) (omega (arith, l .within, L .high-is, L .high-within))
+      (omega arith) (omega (arith, l .from, L .low-is, L .low-above)) s w
+
+  pub hint-taken : {κ : Kind} {H : Heap} {k a : ℕ} → Lowest (λ b. undefined (look H b)) k (S .low) (S .high) a → Zeroed κ k a 0 H
+      → HintRight (zeroed S κ k a 0 H) (T .low) (hint k a)
+  hint-taken l z = hint-next (z .next) (rw (L .low-is) at (hint-lowest l))

@@ -10,10 +10,12 @@ use Rattle.cells.specs.Lent.{putWord}
 use Rattle.cells.specs.declared.Kind.the-variants.{Int}
 use Rattle.cells.specs.declared.Cell.{Cell}
 use Rattle.calculus.specs.Setting.{cell}
-use Rattle.calculus.specs.Expr.{Expr, lit, var, malloc, bind, one, two, One, Two, nodes}
-use Rattle.image.specs.Tabled.{Row, Spans, oneCode, oneArgument, oneKind, twoCode}
+use Rattle.calculus.specs.Expr.{Expr, lit, var, malloc, bind, one, two, One, nodes}
+use Rattle.calculus.specs.declared.Act.{Act}
+use Rattle.calculus.specs.declared.Operation.the-variants.{Let, Acts}
+use Rattle.image.specs.Tabled.{Row, Spans, oneOperation, oneArgument, oneKind}
 use Rattle.image.specs.Shape.{Scoped, SmallOne, SmallExpr, small-one, height}
-use Rattle.machine.proofs.Memory.{Four, Below, four-below, Word, word-other}
+use Rattle.machine.proofs.Memory.{Four, SameBelow, four-below, BoundWord, word-other}
 use Rattle.machine.proofs.Context.{Hole, in-one, in-bound, in-left, in-right, under}
 use Rattle.machine.proofs.Fill.{fill}
 
@@ -54,29 +56,29 @@ pub record Waits (t : List ℕ) (R j lets above : ℕ) (e : Expr) : Type 0 where
 pub data Stack (t : List ℕ) (R : ℕ) (frames : List ℕ) : (height : ℕ) → List Cell → List Hole → (left : ℕ) → Type 0 where
   bottom : Stack t R frames 0 [] [] 0
   on-one : {h l i : ℕ} {ρ : List Cell} {K : List Hole} {o : One} → Stack t R frames h ρ K l
-      → Four frames h i (modeNumber (under K)) 0 0 → Row t i (oneCode o) (oneArgument o) (oneKind o) 0 → SmallOne o
+      → Four frames h i (modeNumber (under K)) 0 0 → Row t i (oneOperation o) (oneArgument o) (oneKind o) 0 → SmallOne o
       → Stack t R frames (suc h) ρ (in-one o ∷ K) (l + 1)
   on-bound : {h l i j : ℕ} {ρ : List Cell} {K : List Hole} {b : Expr} → Stack t R frames h ρ K l
-      → Four frames h i (modeNumber (under K)) 0 0 → Row t i 2 0 0 j → Waits t R j (suc (length ρ)) (suc h) b
+      → Four frames h i (modeNumber (under K)) 0 0 → Row t i Let 0 0 j → Waits t R j (suc (length ρ)) (suc h) b
       → Stack t R frames (suc h) ρ (in-bound (fill 1 ρ b) ∷ K) (l + 2 + ticks b)
-  on-left : {h l i j : ℕ} {ρ : List Cell} {K : List Hole} {o : Two} {b : Expr} → Stack t R frames h ρ K l
-      → Four frames h i (modeNumber (under K)) 0 0 → Row t i (twoCode o) 0 0 j → Waits t R j (length ρ) (suc h) b
+  on-left : {h l i j : ℕ} {ρ : List Cell} {K : List Hole} {o : Act} {b : Expr} → Stack t R frames h ρ K l
+      → Four frames h i (modeNumber (under K)) 0 0 → Row t i (Acts o) 0 0 j → Waits t R j (length ρ) (suc h) b
       → Stack t R frames (suc h) ρ (in-left o (fill 0 ρ b) ∷ K) (l + 2 + ticks b)
-  on-right : {h l i j : ℕ} {ρ : List Cell} {K : List Hole} {o : Two} {c : Cell} → Stack t R frames h ρ K l
-      → Four frames h i (modeNumber (under K)) (c .value) (packed (c .kind)) → Row t i (twoCode o) 0 0 j → Small (c .kind)
+  on-right : {h l i j : ℕ} {ρ : List Cell} {K : List Hole} {o : Act} {c : Cell} → Stack t R frames h ρ K l
+      → Four frames h i (modeNumber (under K)) (c .value) (packed (c .kind)) → Row t i (Acts o) 0 0 j → Small (c .kind)
       → Stack t R frames (suc h) ρ (in-right o c ∷ K) (l + 1)
   on-body : {h l i j : ℕ} {ρ : List Cell} {K : List Hole} {c : Cell} → Stack t R frames h ρ K l
-      → Four frames h i (modeNumber (under K)) (c .value) (packed (c .kind)) → Row t i 2 0 0 j
+      → Four frames h i (modeNumber (under K)) (c .value) (packed (c .kind)) → Row t i Let 0 0 j
       → Stack t R frames (suc h) (c ∷ ρ) K (l + 1)
 
 -- the values stand in the lent list as words in a heap, the outermost at address 1
 pub data Env (bound : List ℕ) : List Cell → Type 0 where
   no-lets : Env bound []
-  one-let : {ρ : List Cell} {c : Cell} → Env bound ρ → Word bound (suc (length ρ)) (c .value) (packed (c .kind)) → Small (c .kind)
+  one-let : {ρ : List Cell} {c : Cell} → Env bound ρ → BoundWord bound (suc (length ρ)) (c .value) (packed (c .kind)) → Small (c .kind)
       → Env bound (c ∷ ρ)
 
 -- where the rows below are as they were, so is the stack
-pub stack-kept : {t frames frames′ : List ℕ} {R h i l : ℕ} {ρ : List Cell} {K : List Hole} → Below i frames frames′ → h ≤ i
+pub stack-kept : {t frames frames′ : List ℕ} {R h i l : ℕ} {ρ : List Cell} {K : List Hole} → SameBelow i frames frames′ → h ≤ i
     → Stack t R frames h ρ K l → Stack t R frames′ h ρ K l
 stack-kept b m bottom = bottom
 stack-kept b m (on-one s e r o) = on-one (stack-kept b (omega arith) s) (four-below b (omega arith) e) r o
@@ -103,7 +105,7 @@ lets-few (on-body s e r) = omega (arith, lets-few s)
 
 -- a bound value by how many lets out it is
 pub env-at : {bound : List ℕ} {ρ : List Cell} (k : ℕ) → Env bound ρ → k < length ρ
-    → Word bound (length ρ - k) (getD ρ k (cell 0 Int) .value) (packed (getD ρ k (cell 0 Int) .kind))
+    → BoundWord bound (length ρ - k) (getD ρ k (cell 0 Int) .value) (packed (getD ρ k (cell 0 Int) .kind))
 env-at k no-lets l = absurd (omega arith)
 env-at zero (one-let {ρ} v e s) l = let z : suc (length ρ) - 0 ≡ suc (length ρ) = omega arith in rw z e
 env-at (suc k) (one-let {ρ} v e s) l =

@@ -6,11 +6,12 @@ use Prim.Native.Nat.{ℕ}
 use lib.ListN.{length}
 use Rattle.cells.specs.Heap.{Heap}
 use Rattle.cells.specs.Lent.{lent}
+use Rattle.calculus.specs.Setting.{Setting}
 use Rattle.calculus.specs.Expr.{Expr}
 use Rattle.calculus.specs.Run.{Result, run}
 use Rattle.calculus.specs.declared.Outcome.{Outcome}
-use Rattle.image.specs.Content.{Tables, settingOf}
-use Rattle.machine.specs.Drive.{ran, driven}
+use Rattle.machine.specs.declared.Terms.{Terms}
+use Rattle.machine.specs.Turns.{finished, driven}
 use Rattle.machine.specs.Ready.{Ready}
 
 -- the answer and the heap are those of a result of the definition, over the numbers that were lent; the heap has as many words as before
@@ -20,7 +21,7 @@ pub record AsDefined (words : ℕ) (ws : List ℕ) (d : Result) (o : Outcome) (h
   pub heap-long : length (d .heap) ≡ words
 
 -- what a run answers, o, and the lent memory that it leaves
-pub record Stepped (table structs types : List ℕ) (words limit : ℕ) (heap frames bound : List ℕ) (o : Outcome) (heap′ frames′ bound′ : List ℕ) : Type 0 where
-  pub model : ran o heap′ frames′ bound′ ≡ driven table structs types words limit heap frames bound
-  pub definition : (t : Tables) (H : Heap) (e : Expr) (ws : List ℕ) → Ready t words H e ws heap frames bound table structs types
-      → AsDefined words ws (run (settingOf words t) limit H e) o heap′
+pub record Stepped (table structs types : List ℕ) (T : Terms) (heap frames bound : List ℕ) (o : Outcome) (heap′ frames′ bound′ : List ℕ) : Type 0 where
+  pub model : finished o heap′ frames′ bound′ ≡ driven table structs types T heap frames bound
+  pub definition : (S : Setting) (H : Heap) (e : Expr) (ws : List ℕ) → Ready S T H e ws heap frames bound table structs types
+      → AsDefined (T .words) ws (run S (T .limit) H e) o heap′

@@ -2,7 +2,18 @@
 // table; nodes whose part is being evaluated wait in lent frames, and bound values stand in a lent list. There a value is a number with
 // the code of its kind, so that nothing is taken apart and put together again on the way; a word of the heap is read and assigned as a
 // cell.
+use calculus::Halt;
+use calculus::Operation;
 use calculus::Outcome;
+
+// On what terms a script is run: how many words the heap has, the lowest and the highest address that malloc may use, and how many steps
+// it may take.
+pub struct Terms {
+    pub words: usize,
+    pub low: usize,
+    pub high: usize,
+    pub limit: u64,
+}
 
 // Where the machine stands. In focus is the node of number `at` where `code` is 0, else the value `at` that a part gave, with the code
 // of its kind (no kind has the code 0). Then how many frames and bound values there are, whether the focus lies inside an unchecked
@@ -15,20 +26,27 @@ pub struct State {
     pub inside: u64,
     pub steps: u64,
     pub first: u64,
-    pub room: Room,
+    pub hint: Hint,
 }
 
 // Words are never freed: no run of `size` undefined words, or of more, starts below `from`.
-pub struct Room {
+pub struct Hint {
     pub size: usize,
     pub from: usize,
 }
 
-// What a redex comes to: a value with the code of its kind, a halt, or that no rule fits.
-pub enum Redex {
+// A node as its row has it: what it does, its argument, the code of its kind or target, and the number of its second part.
+pub struct Node {
+    pub operation: Operation,
+    pub argument: u64,
+    pub kind: u64,
+    pub second: u64,
+}
+
+// What a node gives once its parts are values: a value with the code of its kind, a halt, or that no rule fits.
+pub enum Yield {
     Gives { value: u64, code: u64 },
-    Null,
-    Bounds,
+    Halts(Halt),
     Blocked,
 }
 
@@ -38,12 +56,12 @@ pub enum Turn {
     Ends(Outcome),
 }
 
-mod drive;
-mod enter;
 mod malloc;
-mod resume;
-mod rules;
+mod nodes;
 mod states;
 mod tables;
+mod turns;
+mod values;
+mod yields;
 
-pub use drive::run;
+pub use turns::run;

@@ -2,21 +2,22 @@
 ghost use Prim.Native.Nat.{_<_, _^_};
 ghost use mathlib.Core.Path.{_≡_};
 ghost use lib.ListN.{getD};
-ghost use Rattle.machine.specs.Malloc.{sizeIn, typeIn, startAt, takenFrom, roomAt, zeros};
-ghost use Rattle.machine.specs.States.{made};
-use crate::Room;
+ghost use Rattle.machine.specs.Malloc.{sizeIn, typeIn, startAt, roomTaken, roomAt, zeros};
+ghost use Rattle.machine.specs.States.{leaving};
+use crate::Hint;
 use crate::State;
+use crate::Terms;
 use crate::Turn;
-use crate::rules::field_count;
-use crate::rules::field_type;
-use crate::rules::number_of;
 use crate::states::focused;
 use crate::states::halt;
 use crate::states::more;
 use crate::states::stepped;
 use crate::states::stuck;
-use crate::states::with_room;
-use calculus::End;
+use crate::states::with_hint;
+use crate::yields::field_count;
+use crate::yields::field_type;
+use crate::yields::number_of;
+use calculus::Halt;
 use cells::Run;
 use cells::lowest_run;
 use cells::put_word;
@@ -26,30 +27,29 @@ pub fn malloc(
     heap: &mut [u64],
     structs: &[u64],
     types: &[u64],
-    words: usize,
-    limit: u64,
+    terms: Terms,
     s: State,
     code: u64,
 ) -> Turn
     requires { ⌜ s .steps < 2 ^ 63 ⌝ }
-    ensures { λ r. ⌜ made r (now (heap .exit)) ≡ roomAt (now (structs .entry)) (now (types .entry)) words limit (now (heap .entry)) s code ⌝ }
+    ensures { λ r. ⌜ leaving r (now (heap .exit)) ≡ roomAt (now (structs .entry)) (now (types .entry)) terms (now (heap .entry)) s code ⌝ }
 {
     let size = size_of(structs, code);
     if size == 0 {
         return stuck(s);
     }
-    let room = s.room;
-    match lowest_run(heap, size, start(room, size), words) {
-        Run::From(address) => take(heap, structs, types, limit, s, code, size, address),
-        Run::Nowhere => halt(s, limit, End::Room),
+    let hint = s.hint;
+    match lowest_run(heap, size, start(hint, size, terms.low), terms.high) {
+        Run::From(address) => take(heap, structs, types, terms.limit, s, code, size, address),
+        Run::Nowhere => halt(s, terms.limit, Halt::Room),
     }
 }
 
 // Where to start to look: no run of that size starts lower.
-fn start(room: Room, size: usize) -> usize
-    ensures { λ r. ⌜ r ≡ startAt room size ⌝ }
+fn start(hint: Hint, size: usize, low: usize) -> usize
+    ensures { λ r. ⌜ r ≡ startAt hint size low ⌝ }
 {
-    if room.size <= size { room.from } else { 1 }
+    if hint.size <= size { hint.from } else { low }
 }
 
 // The run found is taken, a step later: no run of that size starts lower from now on.
@@ -64,13 +64,13 @@ fn take(
     address: usize,
 ) -> Turn
     requires { ⌜ s .steps < 2 ^ 63 ⌝ }
-    ensures { λ r. ⌜ made r (now (heap .exit)) ≡ takenFrom (now (structs .entry)) (now (types .entry)) limit (now (heap .entry)) s code size address ⌝ }
+    ensures { λ r. ⌜ leaving r (now (heap .exit)) ≡ roomTaken (now (structs .entry)) (now (types .entry)) limit (now (heap .entry)) s code size address ⌝ }
 {
     if limit <= s.steps {
         return more(s);
     }
     zero(heap, structs, types, code, size, address);
-    let taken = with_room(focused(s, address as u64, code), size, address);
+    let taken = with_hint(focused(s, address as u64, code), size, address);
     Turn::Goes(stepped(taken))
 }
 

@@ -2,11 +2,12 @@
 ghost use Prim.Native.Nat.{_-_, _<_, _^_};
 ghost use mathlib.Core.Path.{_≡_};
 ghost use Rattle.machine.specs.States as states;
-use crate::Redex;
-use crate::Room;
+use crate::Hint;
 use crate::State;
 use crate::Turn;
+use crate::Yield;
 use calculus::End;
+use calculus::Halt;
 use calculus::Outcome;
 use cells::Cell;
 use cells::unpack;
@@ -15,7 +16,7 @@ use cells::unpack;
 pub fn focused(s: State, at: u64, code: u64) -> State
     ensures { λ r. ⌜ r ≡ states.focused s at code ⌝ }
 {
-    let room = s.room;
+    let hint = s.hint;
     State {
         at,
         code,
@@ -24,7 +25,7 @@ pub fn focused(s: State, at: u64, code: u64) -> State
         inside: s.inside,
         steps: s.steps,
         first: s.first,
-        room,
+        hint,
     }
 }
 
@@ -32,7 +33,7 @@ pub fn focused(s: State, at: u64, code: u64) -> State
 pub fn at_height(s: State, height: usize, inside: u64) -> State
     ensures { λ r. ⌜ r ≡ states.atHeight s height inside ⌝ }
 {
-    let room = s.room;
+    let hint = s.hint;
     State {
         at: s.at,
         code: s.code,
@@ -41,7 +42,7 @@ pub fn at_height(s: State, height: usize, inside: u64) -> State
         inside,
         steps: s.steps,
         first: s.first,
-        room,
+        hint,
     }
 }
 
@@ -49,7 +50,7 @@ pub fn at_height(s: State, height: usize, inside: u64) -> State
 pub fn with_lets(s: State, lets: usize) -> State
     ensures { λ r. ⌜ r ≡ states.withLets s lets ⌝ }
 {
-    let room = s.room;
+    let hint = s.hint;
     State {
         at: s.at,
         code: s.code,
@@ -58,13 +59,13 @@ pub fn with_lets(s: State, lets: usize) -> State
         inside: s.inside,
         steps: s.steps,
         first: s.first,
-        room,
+        hint,
     }
 }
 
 // Another place for malloc to start to look.
-pub fn with_room(s: State, size: usize, from: usize) -> State
-    ensures { λ r. ⌜ r ≡ states.withRoom s size from ⌝ }
+pub fn with_hint(s: State, size: usize, from: usize) -> State
+    ensures { λ r. ⌜ r ≡ states.withHint s size from ⌝ }
 {
     State {
         at: s.at,
@@ -74,7 +75,7 @@ pub fn with_room(s: State, size: usize, from: usize) -> State
         inside: s.inside,
         steps: s.steps,
         first: s.first,
-        room: Room { size, from },
+        hint: Hint { size, from },
     }
 }
 
@@ -83,7 +84,7 @@ pub fn stepped(s: State) -> State
     requires { ⌜ s .steps < 2 ^ 63 ⌝ }
     ensures { λ r. ⌜ r ≡ states.stepped s ⌝ }
 {
-    let room = s.room;
+    let hint = s.hint;
     let steps = s.steps + 1;
     State {
         at: s.at,
@@ -93,7 +94,7 @@ pub fn stepped(s: State) -> State
         inside: s.inside,
         steps,
         first: first(s),
-        room,
+        hint,
     }
 }
 
@@ -109,23 +110,22 @@ fn first(s: State) -> u64
     }
 }
 
-// What the redex gives is in focus, a step later.
-pub fn contracted(s: State, limit: u64, redex: Redex) -> Turn
+// What a node gives is in focus, a step later.
+pub fn contracted(s: State, limit: u64, given: Yield) -> Turn
     requires { ⌜ s .steps < 2 ^ 63 ⌝ }
-    ensures { λ r. ⌜ r ≡ states.contracted limit s redex ⌝ }
+    ensures { λ r. ⌜ r ≡ states.contracted limit s given ⌝ }
 {
-    match redex {
-        Redex::Gives { value, code } => step(focused(s, value, code), limit),
-        Redex::Null => halt(s, limit, End::Null),
-        Redex::Bounds => halt(s, limit, End::Bounds),
-        Redex::Blocked => stuck(s),
+    match given {
+        Yield::Gives { value, code } => step_within(focused(s, value, code), limit),
+        Yield::Halts(why) => halt(s, limit, why),
+        Yield::Blocked => stuck(s),
     }
 }
 
 // A step, or More where the limit forbids it.
-fn step(s: State, limit: u64) -> Turn
+fn step_within(s: State, limit: u64) -> Turn
     requires { ⌜ s .steps < 2 ^ 63 ⌝ }
-    ensures { λ r. ⌜ r ≡ states.step limit s ⌝ }
+    ensures { λ r. ⌜ r ≡ states.stepWithin limit s ⌝ }
 {
     if limit <= s.steps {
         more(s)
@@ -162,16 +162,16 @@ pub fn stuck(s: State) -> Turn
 }
 
 // "A halt is itself a step."
-pub fn halt(s: State, limit: u64, end: End) -> Turn
+pub fn halt(s: State, limit: u64, why: Halt) -> Turn
     requires { ⌜ s .steps < 2 ^ 63 ⌝ }
-    ensures { λ r. ⌜ r ≡ states.halt limit s end ⌝ }
+    ensures { λ r. ⌜ r ≡ states.halt limit s why ⌝ }
 {
     if limit <= s.steps {
         return more(s);
     }
     let taken = stepped(s);
     Turn::Ends(Outcome {
-        end,
+        end: End::Halted(why),
         steps: taken.steps,
         first: taken.first,
     })

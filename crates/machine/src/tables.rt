@@ -2,17 +2,32 @@
 // then the value of its first part with the code of its kind, 0 while that part is evaluated). A row that is not whole is not there.
 ghost use Prim.Native.Nat.{_<_};
 ghost use mathlib.Core.Path.{_≡_};
-ghost use Rattle.machine.specs.Tables.{rowAt, framed, kept};
+ghost use Rattle.machine.specs.Tables.{inRow, nodeAt, framed, kept};
+use crate::Node;
+use calculus::operation_of;
 
 // Number j of row i, 0 where there is no such row.
 pub fn row(table: &[u64], i: usize, j: usize) -> u64
     requires { ⌜ j < 4 ⌝ }
-    ensures { λ r. ⌜ r ≡ rowAt (now (table .entry)) i j ⌝ }
+    ensures { λ r. ⌜ r ≡ inRow (now (table .entry)) i j ⌝ }
 {
     if i < table.len() / 4 {
         table[4 * i + j]
     } else {
         0
+    }
+}
+
+// Node i, its code decoded; a row that is not there has the numbers 0.
+pub fn node_at(nodes: &[u64], i: usize) -> Node
+    ensures { λ r. ⌜ r ≡ nodeAt (now (nodes .entry)) i ⌝ }
+{
+    let operation = operation_of(row(nodes, i, 0));
+    Node {
+        operation,
+        argument: row(nodes, i, 1),
+        kind: row(nodes, i, 2),
+        second: row(nodes, i, 3),
     }
 }
 
