@@ -11,7 +11,7 @@ use Rattle.judge.specs.Script.{asVerdict}
 use Rattle.judge.specs.declared.Judged.{Judged}
 use Rattle.judge.specs.declared.Judged.the-variants as judged
 use Rattle.codlinbell.specs.Answered.{Answered, answering, answered, announced}
-use Rattle.answers.specs.Out.{Told, told}
+use Rattle.answers.specs.Out.{Numbered, numbered}
 use Rattle.codlinbell.specs.Hosted.{Hosted, hosted}
 use Rattle.answers.specs.Line.{line}
 use Rattle.answers.specs.declared.Answer.{Answer}
@@ -41,7 +41,7 @@ pub host-determined : (image ws out : List ℕ) (limit : ℕ) (a b : Hosted) →
 host-determined image ws out limit a b p q = p ∙ sym q
 
 -- write_numbers
-pub numbers-determined : (out : List ℕ) (answer : Answer) (a b : Told) → a ≡ told out answer → b ≡ told out answer → a ≡ b
+pub numbers-determined : (out : List ℕ) (answer : Answer) (a b : Numbered) → a ≡ numbered out answer → b ≡ numbered out answer → a ≡ b
 numbers-determined out answer a b p q = p ∙ sym q
 
 -- write_line

@@ -10,11 +10,11 @@ use Rattle.codlinbell.proofs.answer.answer_in.Tie as tie
 
 -- What loading left, where the image reads without fault.
 told : (c : tie.After-struct-known)
-    → LoadedAs (c .before .before .before .before .before .before .before .before .before .before .before .before .before .before .before .before .before .heap-words .result) (c .before .before .before .before .before .before .before .before .before .before .before .before .before .before .before .before .before .before .before .before .before .before .before .before .before .before .before .before .before .args .image .now) (c .before .before .counts .given .0 .0) (c .before .before .before .before .before .before .before .before .before .before .before .before .load .last .1 .1 .0) (c .before .before .before .before .before .before .before .before .before .before .before .before .load .last .1 .1 .1 .0)
+    → LoadedAs (c .before .before .before .before .before .before .before .before .before .before .before .before .before .before .before .before .before .heap-words .result) (c .before .before .before .before .before .before .before .before .before .before .before .before .before .before .before .before .before .before .before .before .before .before .before .before .before .before .before .before .before .args .image .now) (c .before .before .sizes .given .0 .0) (c .before .before .before .before .before .before .before .before .before .before .before .before .load .last .1 .1 .0) (c .before .before .before .before .before .before .before .before .before .before .before .before .load .last .1 .1 .1 .0)
     (c .before .before .before .before .before .before .before .before .before .before .before .before .load .last .1 .1 .1 .1 .0) (c .before .before .before .before .before .before .before .before .before .before .before .before .load .last .1 .1 .1 .1 .1 .0)
 told c =
     let k = c .before .before .before .before .before .before .before .before .before .before .before .before .load .kept in
-    loaded-told (c .before .before .before .before .before .before .before .before .before .before .before .before .before .before .before .before .before .before .before .before .before .before .before .before .before .before .before .before .before .pre) (c .before .before .before .before .before .before .before .before .before .before .before .before .load .ensures) (c .before .before .counts .given .1) (k .1 .1 .0) (k .1 .1 .1 .0) (k .1 .1 .1 .1 .0) (k .1 .1 .1 .1 .1 .0)
+    loaded-told (c .before .before .before .before .before .before .before .before .before .before .before .before .before .before .before .before .before .before .before .before .before .before .before .before .before .before .before .before .before .pre) (c .before .before .before .before .before .before .before .before .before .before .before .before .load .ensures) (c .before .before .sizes .given .1) (k .1 .1 .0) (k .1 .1 .1 .0) (k .1 .1 .1 .1 .0) (k .1 .1 .1 .1 .1 .0)
 
 heap-words-requires : tie.Need-heap-words-requires
 heap-words-requires c κs = search needs
@@ -22,8 +22,8 @@ heap-words-requires c κs = search needs
 load-requires : tie.Need-load-requires
 load-requires c κs = search needs
 
-enum-known-counts : tie.Need-enum-known-counts
-enum-known-counts c = search needs
+enum-known-sizes : tie.Need-enum-known-sizes
+enum-known-sizes c = search needs
 
 mul-s : tie.Need-mul-s
 mul-s c = omega (arith, told c .structs-few)
@@ -83,7 +83,7 @@ same-length-4 : tie.Need-same-length-4
 same-length-4 c = c .before .before .before .before .before .before .before .before .before .before .before .before .before .before .before .before .before .before .before .before .before .before .before .before .before .before .before .before .before .before .before .before .before .before .load .kept .1 .1 .1 .1 .0
 
 same-length-5 : tie.Need-same-length-5
-same-length-5 c = search needs
+same-length-5 c = c .before .before .before .before .before .before .before .before .before .before .before .before .before .before .before .before .before .before .before .before .before .before .before .before .before .before .before .before .before .before .before .before .before .before .load .kept .1 .1 .1 .1 .1 .0
 
 same-length-6 : tie.Need-same-length-6
 same-length-6 c = search needs
@@ -108,7 +108,7 @@ returns c =
       words-are = c .before .before .before .before .before .before .before .before .before .before .before .before .before .before .before .before .before .before .before .before .before .before .before .before .before .before .before .before .before .before .before .before .before .before .before .before .before .before .before .heap-words .ensures;
       reads = l .reads;
       held = l .held;
-      marks-room = omega (arith, length-take-le (c .before .before .before .before .before .before .before .before .before .before .before .before .before .before .before .before .before .before .before .before .before .before .before .before .counts .given .0 .0 .cells) (c .before .before .before .before .before .before .before .before .before .before .before .before .before .before .before .before .before .before .before .before .before .before .before .before .before .before .before .before .before .before .before .before .before .before .before .before .before .before .before .before .before .before .before .before .before .before .before .before .before .before .before .args .marks .now) (omega (arith, l .few-cells, r .marks-room)), l .cells-count);
+      marks-room = omega (arith, length-take-le (c .before .before .before .before .before .before .before .before .before .before .before .before .before .before .before .before .before .before .before .before .before .before .before .before .sizes .given .0 .0 .cells) (c .before .before .before .before .before .before .before .before .before .before .before .before .before .before .before .before .before .before .before .before .before .before .before .before .before .before .before .before .before .before .before .before .before .before .before .before .before .before .before .before .before .before .before .before .before .before .before .before .before .before .before .args .marks .now) (omega (arith, l .few-cells, r .marks-room)), l .cells-count);
       queue-room = omega (arith, r .queue-room, l .cells-count, l .few-cells);
       bound-room = r .bound-room;
       frames-room = r .frames-room;
@@ -138,7 +138,7 @@ answer-in-spec =
     (tie.spec
     heap-words-requires
     load-requires
-    enum-known-counts
+    enum-known-sizes
     mul-s
     mul-c
     mul-n

@@ -6,7 +6,7 @@ use mathlib.Core.List.{List, _++_}
 use lib.ListN.{length, drop}
 use borrow.Author.Tests.{lt-ltb, le-ltb}
 use Rattle.codlinbell.specs.Answered.{Answered, answering, answered}
-use Rattle.answers.specs.Out.{Told, told, outNumbers}
+use Rattle.answers.specs.Out.{Numbered, numbered, outNumbers}
 use Rattle.codlinbell.specs.Hosted.{Hosted, hosted}
 use Rattle.answers.specs.declared.Answer.{Answer}
 use borrow.Author.Needs.{needs}
@@ -21,13 +21,13 @@ unfolding hosted
 too-short image ws out limit h = rw (lt-ltb (length out) 6 h)
 
 hosted-told : (image ws out : List ℕ) (limit : ℕ) {ws′ out′ : List ℕ} (a : Answer) (done : Bool) → 6 ≤ length out
-    → answering a ws′ ≡ answered image ws limit → _≡_ {A = Told} (record { done = done; out = out′ }) (told out a)
+    → answering a ws′ ≡ answered image ws limit → _≡_ {A = Numbered} (record { done = done; out = out′ }) (numbered out a)
     → host done ws′ out′ ≡ hosted image ws limit out
 unfolding hosted
 hosted-told image ws out limit {ws′} {out′} a done h e q =
-    let p : _≡_ {A = Told} (record { done = done; out = out′ }) (record { done = true; out = outNumbers a ++ drop 6 out }) =
+    let p : _≡_ {A = Numbered} (record { done = done; out = out′ }) (record { done = true; out = outNumbers a ++ drop 6 out }) =
     q ∙ rw (le-ltb (length out) 6 h) in
-    rw (le-ltb (length out) 6 h, ← e, ap (λ (t : Told). t .done) p, ap (λ (t : Told). t .out) p)
+    rw (le-ltb (length out) 6 h, ← e, ap (λ (t : Numbered). t .done) p, ap (λ (t : Numbered). t .out) p)
 
 returns : tie.Need-returns
 returns c = too-short _ _ _ _ (c .if1 .taken)
