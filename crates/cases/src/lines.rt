@@ -8,7 +8,7 @@ use libc::STDOUT_FILENO;
 use std::num::wrapping_add_u64;
 
 // A number that was read, and the offset after it.
-struct Decimal {
+struct Figures {
     value: u64,
     next: usize,
 }
@@ -89,7 +89,7 @@ fn after_line(text: &[u8], at: usize) -> usize
 }
 
 // The decimal number at `at`, as it wraps at 64 bits: 0 where no digit is there.
-fn decimal(line: &[u8], at: usize) -> Decimal
+fn decimal(line: &[u8], at: usize) -> Figures
     requires { ⌜ at ≤ length (now line) ⌝ }
     ensures { λ r. ⌜ r .next ≤ length (now (line .entry)) ⌝ }
 {
@@ -98,12 +98,12 @@ fn decimal(line: &[u8], at: usize) -> Decimal
     while next < line.len() {
         let more = digit(line[next]);
         if more > 9 {
-            return Decimal { value, next };
+            return Figures { value, next };
         }
         value = wrapping_add_u64(ten_times(value), more);
         next += 1;
     }
-    Decimal { value, next }
+    Figures { value, next }
 }
 
 // Ten times the number, as it wraps at 64 bits.
@@ -154,12 +154,12 @@ fn skip(line: &[u8], at: usize, byte: u8) -> usize
 }
 
 // The byte of the two hexadecimal digits at `at`, or 256 where they are not there.
-fn pair(line: &[u8], at: usize) -> Decimal
+fn pair(line: &[u8], at: usize) -> Figures
     requires { ⌜ at ≤ length (now line) ⌝ }
     ensures { λ r. ⌜ r .next ≤ length (now (line .entry)) ⌝ }
 {
     if line.len() - at < 2 {
-        return Decimal {
+        return Figures {
             value: 256,
             next: at,
         };
@@ -167,18 +167,18 @@ fn pair(line: &[u8], at: usize) -> Decimal
     let high = digit(line[at]);
     let low = digit(line[at + 1]);
     if high > 15 {
-        return Decimal {
+        return Figures {
             value: 256,
             next: at,
         };
     }
     if low > 15 {
-        return Decimal {
+        return Figures {
             value: 256,
             next: at,
         };
     }
-    Decimal {
+    Figures {
         value: 16 * high + low,
         next: at + 2,
     }
