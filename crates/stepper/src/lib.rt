@@ -1,0 +1,1 @@
+// The machine over rows in run order.
