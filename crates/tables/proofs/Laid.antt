@@ -1,14 +1,13 @@
 -- Of the rows of an expression: they go forward, they are within the table, they stay as long as nothing before their end changes, and
 -- there are at least as many as nodes, and with the row that stops at most twice as many.
-use Prim.Native.Nat.{ℕ, suc, _+_, _*_, _/_, _<_, _≤_}
+use Prim.Native.Nat.{ℕ, suc, _+_, _*_, _<_, _≤_}
 use mathlib.Core.Path.{_≡_, refl, sym, _∙_, ap}
 use mathlib.Core.List.{List}
 use native.Mathlib.Omega.{arith}
-use lib.ListN.{length}
 use Rattle.cells.specs.declared.Mode.{Mode}
 use Rattle.calculus.specs.Expr.{Expr, nodes}
-use Rattle.tables.specs.Rows.{wholeRows, headAt, datumAt, putRow, Work, push, fetch, take, apply, join, hold, drop, stop, TaskRow, taskRow, taskRowAt}
-use Rattle.tables.specs.Parts.{PartRows, part-lit, part-var, part-malloc, part-bind, part-one, part-two, HoldsExpr, FrontKept}
+use Rattle.tables.specs.Rows.{wholeRows, putRow, Work, push, fetch, take, apply, join, hold, drop, stop, TaskRow, taskRow, taskRowAt}
+use Rattle.tables.specs.Parts.{PartRows, part-lit, part-var, part-malloc, part-bind, part-one, part-two, FrontKept}
 use Rattle.tables.proofs.Placed.{length-row, head-elsewhere, datum-elsewhere, row-inside}
 
 -- ---- where the rows stand
@@ -84,20 +83,20 @@ kept-put rows {p = p} head datum n =
       long = length-row rows p head datum;
     }
 
-pub row-kept : {end : ℕ} {rows rows′ : List ℕ} (types : List ℕ) (p : ℕ) → FrontKept end rows rows′ → p < end
+pub front-row : {end : ℕ} {rows rows′ : List ℕ} (types : List ℕ) (p : ℕ) → FrontKept end rows rows′ → p < end
     → taskRowAt types rows′ p ≡ taskRowAt types rows p
 unfolding taskRowAt
-row-kept types p k l = rw (k .heads p l, k .datums p l)
+front-row types p k l = rw (k .heads p l, k .datums p l)
 
 pub part-kept : {end : ℕ} {types rows rows′ : List ℕ} {m : Mode} {i p q : ℕ} {e : Expr} → FrontKept end rows rows′ → q ≤ end
     → PartRows types rows m i p e q → PartRows types rows′ m i p e q
-part-kept k l (part-lit {p} x) = part-lit (row-kept _ p k l ∙ x)
-part-kept k l (part-var {p} x) = part-var (row-kept _ p k l ∙ x)
-part-kept k l (part-malloc {p} x d) = part-malloc (row-kept _ p k l ∙ x) (k .datums p l ∙ d)
+part-kept k l (part-lit {p} x) = part-lit (front-row _ p k l ∙ x)
+part-kept k l (part-var {p} x) = part-var (front-row _ p k l ∙ x)
+part-kept k l (part-malloc {p} x d) = part-malloc (front-row _ p k l ∙ x) (k .datums p l ∙ d)
 part-kept k l (part-bind {q} {r} a x b y) =
     let n = forward b in
-    part-bind (part-kept k (omega arith) a) (row-kept _ q k (omega arith) ∙ x) (part-kept k (omega arith) b) (row-kept _ r k l ∙ y)
-part-kept k l (part-one {q} e x) = part-one (part-kept k (omega arith) e) (row-kept _ q k l ∙ x)
+    part-bind (part-kept k (omega arith) a) (front-row _ q k (omega arith) ∙ x) (part-kept k (omega arith) b) (front-row _ r k l ∙ y)
+part-kept k l (part-one {q} e x) = part-one (part-kept k (omega arith) e) (front-row _ q k l ∙ x)
 part-kept k l (part-two {r} a b x) =
     let n = forward b in
-    part-two (part-kept k (omega arith) a) (part-kept k (omega arith) b) (row-kept _ r k l ∙ x)
+    part-two (part-kept k (omega arith) a) (part-kept k (omega arith) b) (front-row _ r k l ∙ x)

@@ -4,3 +4,5 @@ pub mod Placed
 pub mod Operands
 pub mod Laid
 pub mod Written
+pub mod Coded
+pub mod Held

@@ -6,7 +6,8 @@ use Rattle.cells.specs.Code.{unpacked}
 use Rattle.cells.specs.declared.Mode.{Mode}
 use Rattle.calculus.specs.Expr.{One, unchecked, cast, read, field}
 use Rattle.tables.specs.Heads.{taskIn, insideIn, slotIn, leftIn, nodeIn}
-use Rattle.tables.specs.Rows.{headAt, datumAt, Work, push, fetch, take, apply, join, hold, drop, stop, typeKind, workOf, insideMode, TaskRow, taskRow, taskRowAt}
+use Rattle.tables.specs.Rows.{headAt, datumAt, typeKind, workOf, insideMode, TaskRow, taskRow, taskRowAt}
+use Rattle.tables.specs.Rows.{Work, push, fetch, take, apply, join, hold, drop, stop}
 use Rattle.tables.specs.declared.Task.{Task}
 use Rattle.tables.specs.declared.Task.the-variants as task
 

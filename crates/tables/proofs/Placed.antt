@@ -1,16 +1,16 @@
 -- The numbers after a row was put: the row has them, the others are as they were, and the numbers are as many.
 use Prim.Native.Nat.{ℕ, _+_, _*_, _/_, _<_, _≤_}
 use mathlib.Core.Path.{_≡_, refl, _∙_}
-use mathlib.Core.Bool.{Bool, true, false}
+use mathlib.Core.Bool.{Bool}
 use mathlib.Core.List.{List}
 use native.Mathlib.Omega.{arith}
 use native.Mathlib.Decide.{decLt}
 use lib.Dec.{ltb}
 use lib.ListN.{length, length-set, getD, set}
 use lib.Seq.{getD-set-same, getD-set-other}
-use borrow.Author.Tests.{lt-ltb, le-ltb, ltb-true}
-use Rattle.choice.specs.Choice.{choose, choose-case}
-use Rattle.tables.specs.Heads.{taskIn, headNumber, slotIn, insideIn, leftIn, nodeIn}
+use borrow.Author.Tests.{lt-ltb, le-ltb}
+use Rattle.choice.specs.Choice.{choose-case}
+use Rattle.tables.specs.Heads.{taskIn, headNumber}
 use Rattle.tables.specs.Rows.{wholeRows, headAt, datumAt, putRow, stop, workOf, insideMode, taskRow, taskRowOf, taskRowAt}
 use Rattle.tables.specs.declared.Task.{Task}
 use Rattle.tables.proofs.Fields.{task-head, inside-head, slot-head, left-head, node-head}

@@ -1,12 +1,12 @@
 -- What a reader that writes a node's row behind its parts' rows may say of the rows then: one law for each kind of node, from the rows of
 -- its parts and the row just written.
-use Prim.Native.Nat.{ℕ, suc, _+_, _*_, _/_, _<_, _≤_}
-use mathlib.Core.Path.{_≡_, refl, _∙_, ap}
+use Prim.Native.Nat.{ℕ, suc, _+_, _<_}
+use mathlib.Core.Path.{_≡_, _∙_, ap}
 use mathlib.Core.Bool.{Bool, false}
 use mathlib.Core.List.{List}
 use native.Mathlib.Omega.{arith}
 use lib.ListN.{length}
-use Rattle.cells.specs.Code.{packed, unpacked, Small}
+use Rattle.cells.specs.Code.{packed, Small}
 use Rattle.cells.specs.declared.Mode.{Mode}
 use Rattle.cells.specs.declared.Mode.the-variants.{Checked}
 use Rattle.cells.specs.declared.Kind.{Kind}
@@ -14,12 +14,12 @@ use Rattle.cells.proofs.Codes.{round-trip}
 use Rattle.calculus.specs.Expr.{Expr, lit, var, malloc, bind, one, two, nodes, One, act, Target, pointer, inside}
 use Rattle.calculus.specs.declared.Act.{Act}
 use Rattle.tables.specs.Heads.{headNumber}
-use Rattle.tables.specs.Rows.{wholeRows, putRow, Work, push, fetch, take, apply, join, hold, drop, typeKind, workOf, insideMode, TaskRow, taskRow, taskRowAt}
+use Rattle.tables.specs.Rows.{wholeRows, putRow, Work, push, take, apply, typeKind, workOf, insideMode, TaskRow, taskRow, taskRowAt}
 use Rattle.tables.specs.Parts.{PartRows, part-lit, part-var, part-malloc, part-bind, part-one, part-two, HoldsExpr, FrontKept}
 use Rattle.tables.specs.declared.Task.{Task}
 use Rattle.tables.specs.declared.Task.the-variants as task
 use Rattle.tables.proofs.Placed.{length-row, datum-there, row-put, row-made}
-use Rattle.tables.proofs.Laid.{forward, kept-put, row-kept, part-kept}
+use Rattle.tables.proofs.Laid.{forward, kept-put, front-row, part-kept}
 
 -- a row just written, of a head whose fields fit
 pub row-written : (types rows : List ℕ) (p : ℕ) (t : Task) (b : Bool) (slot left node datum : ℕ)
@@ -80,7 +80,7 @@ module _ (types : List ℕ) (b : Bool) (i : ℕ) (small : i < 4096) where
       let hold-put : FrontKept q rows (putRow rows q (headNumber task.Bind b 0 0 i) 0) = kept-put rows (headNumber task.Bind b 0 0 i) 0 (omega arith) in
       let put : FrontKept r rows′ (putRow rows′ r (headNumber task.Unbind b 0 q i) 0) = kept-put rows′ (headNumber task.Unbind b 0 q i) 0 (omega arith) in
       part-bind (part-kept put (omega arith) (part-kept k (omega arith) (part-kept hold-put (omega arith) x)))
-      (row-kept types q put (omega arith) ∙ row-kept types q k (omega arith)
+      (front-row types q put (omega arith) ∙ front-row types q k (omega arith)
       ∙ row-written types rows q task.Bind b 0 0 i 0 (omega arith) (omega arith) (omega arith) small)
       (part-kept put (omega arith) y)
       (row-written types rows′ r task.Unbind b 0 q i 0 there (omega arith) low small)

@@ -12,6 +12,7 @@ use Rattle.cells.specs.declared.Mode.the-variants.{Checked, Unchecked}
 use Rattle.cells.specs.declared.Kind.{Kind}
 use Rattle.calculus.specs.Expr.{One, unchecked, cast, read, field}
 use Rattle.calculus.specs.declared.Act.{Act}
+use Rattle.tables.specs.Kinds.{typeCodeAt}
 use Rattle.tables.specs.Heads.{taskIn, insideIn, slotIn, leftIn, nodeIn}
 use Rattle.tables.specs.declared.Task.{Task}
 use Rattle.tables.specs.declared.Task.the-variants as task
@@ -62,9 +63,9 @@ abbrev pub insideMode : (inside : Bool) → Mode
 insideMode true = Unchecked
 insideMode false = Checked
 
--- the kind of a word type, by the packed codes; past the end int, whose code is 1
+-- the kind of the word type with a number
 abbrev pub typeKind : (types : List ℕ) (n : ℕ) → Kind
-typeKind types n = unpacked (getD types n 1)
+typeKind types n = unpacked (typeCodeAt types n)
 
 abbrev pub workOf : (types : List ℕ) → Task → (slot datum : ℕ) → Work
 workOf types task.Stop slot datum = stop

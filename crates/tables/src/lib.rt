@@ -3,6 +3,7 @@
 use calculus::Act;
 
 mod heads;
+mod kinds;
 mod rows;
 
 pub use heads::head_number;
@@ -11,6 +12,18 @@ pub use heads::left_of;
 pub use heads::node_of;
 pub use heads::slot_of;
 pub use heads::task_of;
+pub use kinds::count_of;
+pub use kinds::fallen_code;
+pub use kinds::field_count;
+pub use kinds::field_type;
+pub use kinds::is_checked;
+pub use kinds::is_checked_array;
+pub use kinds::number_of;
+pub use kinds::size_of;
+pub use kinds::tag_of;
+pub use kinds::type_code;
+pub use kinds::word_code;
+pub use kinds::word_type;
 pub use rows::datum_at;
 pub use rows::head_at;
 pub use rows::put_row;

@@ -25,7 +25,8 @@ pub fn put_row(rows: &mut [u64], p: usize, head: u64, datum: u64)
     ensures { λ r. ⌜ now (rows .exit) ≡ putRow (now (rows .entry)) p head datum ⌝ }
 {
     if p < rows.len() / 2 {
-        rows[2 * p] = head;
-        rows[2 * p + 1] = datum;
+        let at = 2 * p;
+        rows[at] = head;
+        rows[at + 1] = datum;
     }
 }

@@ -7,23 +7,20 @@ use Rattle.tables.specs.Rows.{putRow}
 use Rattle.tables.proofs.rows.put_row.Statement.{statement}
 use Rattle.tables.proofs.rows.put_row.Tie as tie
 
+mul-at : tie.Need-mul-at
+mul-at c = search needs
+
 mul-rows : tie.Need-mul-rows
 mul-rows c = search needs
-
-mul-rows-2 : tie.Need-mul-rows-2
-mul-rows-2 c = search needs
 
 slice-write-rows : tie.Need-slice-write-rows
 slice-write-rows c = search needs
 
-mul-rows-3 : tie.Need-mul-rows-3
-mul-rows-3 c = search needs
-
 add-rows : tie.Need-add-rows
 add-rows c = search needs
 
-mul-rows-4 : tie.Need-mul-rows-4
-mul-rows-4 c = search needs
+mul-rows-2 : tie.Need-mul-rows-2
+mul-rows-2 c = search needs
 
 slice-write-rows-2 : tie.Need-slice-write-rows-2
 slice-write-rows-2 c = simp length-set (omega arith)
@@ -43,12 +40,11 @@ pub put-row-spec : {M : Type 1} → statement M
 put-row-spec =
     tie.close
     (tie.spec
+    mul-at
     mul-rows
-    mul-rows-2
     slice-write-rows
-    mul-rows-3
     add-rows
-    mul-rows-4
+    mul-rows-2
     slice-write-rows-2
     same-length
     returns
