@@ -1,5 +1,6 @@
--- What a reader must believe about an answer: its reading, its six numbers, its line; then how bytes are written.
+-- To be believed: the reading of an answer, its six numbers, and its line.
 pub mod Readings
 pub mod Out
 pub mod Line
+-- Models of the code: how bytes are written.
 pub mod Written

@@ -1,4 +1,6 @@
--- What a reader must believe about CoreChkC, in the order of "Typing", "Steps" and "How a run ends"; then what the promises say with it.
+-- To be believed, in the order of "Typing", "Steps" and "How a run ends": what a node does by its code, what a script is judged and run in,
+-- expressions, when a literal is well typed, the rules, the judge, steps, runs, and the numbers of answers; then what the promises say with
+-- it: what is reached, the first node to fail, the count of steps, two limits, and good ends.
 pub mod Operations
 pub mod Setting
 pub mod Expr

@@ -1,6 +1,7 @@
--- What a reader must believe about cells: the packed code, heaps and their words, and a heap in lent numbers.
-pub mod Code
+-- To be believed: heaps of words, when two kinds are the same, a kind as one number, the lowest free run, and a heap in lent numbers (with
+-- what the code's accessors of lent numbers answer).
 pub mod Same
 pub mod Heap
+pub mod Code
 pub mod Free
 pub mod Lent

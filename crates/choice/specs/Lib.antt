@@ -1,2 +1,2 @@
--- What every crate's definitions are written with.
+-- To be believed: the choice by a test that every definition is written with.
 pub mod Choice

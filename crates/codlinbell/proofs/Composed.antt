@@ -26,9 +26,9 @@ use Rattle.judge.specs.Script.{ScriptJudged, asVerdict}
 use Rattle.judge.specs.declared.Judged.{Judged}
 use Rattle.judge.specs.declared.Judged.the-variants as verdict
 use Rattle.machine.specs.Entry.{Stepped}
-use Rattle.codlinbell.specs.Answered.{Answered, answering, answered, refusal, ran, judgedThen, readThen, contentVerdict, contentRun, announced, announcedOf}
+use Rattle.codlinbell.specs.Answered.{Answered, answering, answered, ran, judgedThen, readThen, contentVerdict, contentRun, announced, announcedOf}
 use Rattle.codlinbell.specs.Placing.{cellsStored}
-use Rattle.codlinbell.specs.Prepared.{LongTables, Prepared}
+use Rattle.codlinbell.specs.Prepared.{wholeHeap, LongTables, Prepared}
 use Rattle.answers.specs.declared.Answer.{Answer}
 use Rattle.answers.specs.declared.Answer.the-variants.{Refused, Ran}
 use Rattle.codlinbell.proofs.Heaps.{cells-made}
@@ -48,14 +48,14 @@ module _ {image ws : List ℕ} {words : ℕ} {c : Content} {structs types cells 
 
   -- Clearing, placing and running is the definition's run.
   pub run-told : (limit : ℕ) {ws₁ ws₂ ws₃ frames′ bound′ : List ℕ} {o : Outcome} → ws₁ ≡ cleared ws words → ws₂ ≡ cellsStored cells ws₁
-      → Stepped table structs types words limit ws₂ frames bound o ws₃ frames′ bound′ → answering (Ran o) ws₃ ≡ ran ws (contentRun ws limit c)
+      → Stepped table structs types (wholeHeap words limit) ws₂ frames bound o ws₃ frames′ bound′ → answering (Ran o) ws₃ ≡ ran ws (contentRun ws limit c)
   run-told limit {ws₁} {ws₂} {ws₃} {o = o} e₁ e₂ s =
       let few : words ≤ 4096 = omega (arith, p .words-are) in
       let room : 2 * words ≤ length ws = omega (arith, p .words-are) in
       let placed : ws₂ ≡ lent (heapOf words (c .cells)) ws =
       e₂ ∙ rw (e₁, p .held .cells-held) (cells-made ws words (c .cells) (rising content-read) room) in
-      let d = s .definition (c .tables) (heapOf words (c .cells)) (c .expr) ws
-      (ready content-read ws ws₂ frames bound structs types cells table (p .held) placed (p .frames-room) (p .bound-room) few room) in
+      let d = s .definition (settingOf words c) (heapOf words (c .cells)) (c .expr) ws
+      (ready content-read limit ws ws₂ frames bound structs types cells table (p .held) placed (p .frames-room) (p .bound-room) few room) in
       rw (← p .words-are) (rw (d .outcome, d .heap-held))
 
   -- Where only the list of bound kinds was written since, the tables still hold the content.

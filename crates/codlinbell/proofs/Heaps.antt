@@ -17,7 +17,7 @@ use Rattle.calculus.specs.Setting.{cell}
 use Rattle.image.specs.Content.{Placed, placed, heapOf}
 use Rattle.image.specs.Tabled.{cellRows}
 use Rattle.image.proofs.CellLaws.{rows-length}
-use Rattle.judge.specs.Readied.{Rising, none, more}
+use Rattle.judge.specs.Premises.{CellsRise, none, more}
 use Rattle.codlinbell.specs.Placing.{rowsStored, cellsStored}
 
 -- Placing cells keeps a heap's length.
@@ -31,12 +31,12 @@ pub heap-length : (words : ℕ) (ps : List Placed) → length (heapOf words ps) 
 heap-length words ps = placed-length ps (replicate words Undefined) ∙ length-replicate words Undefined
 
 -- Placing cells whose kinds fit keeps a heap's kinds fitting.
-placed-small : {words a : ℕ} {ps : List Placed} → Rising words a ps → (H : Heap) → SmallHeap H → SmallHeap (placed ps H)
+placed-small : {words a : ℕ} {ps : List Placed} → CellsRise words a ps → (H : Heap) → SmallHeap H → SmallHeap (placed ps H)
 unfolding placed
 placed-small none H s = s
 placed-small (more {p = p} h l k r) H s = placed-small r (update H (p .address) (p .held)) (small-update H (p .address) (p .held) s k)
 
-pub heap-small : {words : ℕ} {ps : List Placed} → Rising words 0 ps → SmallHeap (heapOf words ps)
+pub heap-small : {words : ℕ} {ps : List Placed} → CellsRise words 0 ps → SmallHeap (heapOf words ps)
 heap-small {words} r = placed-small r (replicate words Undefined) (small-empty words)
 
 -- A number of row j, of rows whose part from there on is known.
@@ -56,7 +56,7 @@ unfolding rowsStored stored
 row-stored rows ws ws′ n j a v κ ea ev ek e = rw (ea, ev, ek, e)
 
 -- Storing the rows of cells, from row j on, over a lent heap places the cells.
-rows-lent : (rows : List ℕ) {words a : ℕ} {ps : List Placed} → Rising words a ps → (j : ℕ) (H : Heap) (ws : List ℕ) → drop (3 * j) rows ≡ cellRows ps
+rows-lent : (rows : List ℕ) {words a : ℕ} {ps : List Placed} → CellsRise words a ps → (j : ℕ) (H : Heap) (ws : List ℕ) → drop (3 * j) rows ≡ cellRows ps
     → words ≤ length H → 2 * length H ≤ length ws → rowsStored rows (length ps) j (lent H ws) ≡ lent (placed ps H) ws
 unfolding rowsStored placed cellRows
 rows-lent rows none j H ws e l r = refl
@@ -68,7 +68,7 @@ rows-lent rows (more {p = p} {ps = ps} h i s t) j H ws e l r =
     ∙ rows-lent rows t (suc j) (update H (p .address) (p .held)) ws (rows-behind rows j _ _ _ (cellRows ps) e) (omega arith) (omega arith)
 
 -- Clearing the words and storing the rows makes the content's heap.
-pub cells-made : (ws : List ℕ) (words : ℕ) (ps : List Placed) → Rising words 0 ps → 2 * words ≤ length ws
+pub cells-made : (ws : List ℕ) (words : ℕ) (ps : List Placed) → CellsRise words 0 ps → 2 * words ≤ length ws
     → cellsStored (cellRows ps) (cleared ws words) ≡ lent (heapOf words ps) ws
 cells-made ws words ps r h =
     let n : length (cellRows ps) / 3 ≡ length ps = omega (arith, rows-length ps) in

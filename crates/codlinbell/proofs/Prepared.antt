@@ -1,7 +1,7 @@
 -- What reading an image sees to, as the judge and the machine want it: for the content of every image that reads without fault, with
 -- tables that hold it and enough room beside them, the judge's and the machine's contracts speak of the definitions.
 use Prim.Native.Nat.{ℕ, zero, suc, _+_, _*_, _≤_, _<_, max}
-use mathlib.Core.Path.{_≡_, refl, sym, _∙_}
+use mathlib.Core.Path.{_≡_, refl, ap}
 use mathlib.Core.List.{List, [], _∷_}
 use native.Mathlib.Decide.{decLt}
 use native.Mathlib.Omega.{arith}
@@ -12,15 +12,17 @@ use Rattle.cells.specs.Lent.{lent}
 use Rattle.cells.specs.declared.Kind.{Kind}
 use Rattle.cells.specs.declared.Kind.the-variants.{Int}
 use Rattle.calculus.specs.Expr.{Expr, lit, var, malloc, bind, one, two}
-use Rattle.image.specs.Content.{Content, Placed, Tables, heapOf}
+use Rattle.image.specs.Content.{Content, Placed, Tables, settingOf, heapOf}
+use Rattle.image.specs.declared.Format.{Format}
 use Rattle.image.specs.Shape.{height}
 use Rattle.image.specs.Tabled.{Held}
 use Rattle.image.proofs.Each.{each-at}
 use Rattle.image.proofs.CellLaws as read
 use Rattle.image.proofs.FrontLaws.{TablesGood, kinds-small}
 use Rattle.image.proofs.LoadLaws.{ContentRead, content-small}
-use Rattle.judge.specs.Readied.{Readied, Rising, none, more, nested}
+use Rattle.judge.specs.Premises.{Readied, CellsRise, none, more, nested}
 use Rattle.machine.specs.Ready.{Ready}
+use Rattle.codlinbell.specs.Prepared.{wholeHeap}
 use Rattle.codlinbell.proofs.Heaps.{heap-length, heap-small}
 
 -- What holds of a list's elements and of what stands past its end holds at every index.
@@ -44,7 +46,7 @@ fields-small {t} g =
 
 -- The cells rise, and their kinds fit their codes.
 cells-rise : {words before : ℕ} {types : List Kind} {ps : List Placed} → ((n : ℕ) → Small (getD types n Int)) → read.Rising words types before ps
-    → Rising words before ps
+    → CellsRise words before ps
 cells-rise small read.rising-none = none
 cells-rise small (read.rising {n = n} {p = p} h l v k e r) = more {p = p} h l (rw e (small n)) (cells-rise small r)
 
@@ -59,7 +61,7 @@ nested-low (one o e) = omega (arith, nested-low e)
 nested-low (two o a b) = omega (arith, nested-low a, nested-low b)
 
 module _ {words : ℕ} {image : List ℕ} {c : Content} {next : ℕ} (r : ContentRead words image c next) where
-  pub rising : Rising words 0 (c .cells)
+  pub rising : CellsRise words 0 (c .cells)
   rising = cells-rise (types-small (r .tables-good)) (r .cells-rise)
 
   -- The judge's contract speaks of the definition.
@@ -76,12 +78,17 @@ module _ {words : ℕ} {image : List ℕ} {c : Content} {next : ℕ} (r : Conten
         bound-room = omega (arith, nested-low (c .expr), r .low);
       }
 
-  -- So does the machine's, over the content's heap.
-  pub ready : (ws heap frames bound structs types cells table : List ℕ) → Held c structs types cells table → heap ≡ lent (heapOf words (c .cells)) ws
-      → 256 ≤ length frames → 128 ≤ length bound → words ≤ 4096 → 2 * words ≤ length ws
-      → Ready (c .tables) words (heapOf words (c .cells)) (c .expr) ws heap frames bound table structs types
-  ready ws heap frames bound structs types cells table held e f b few room =
+  -- So does the machine's, over the content's heap, all of which malloc may use.
+  pub ready : (limit : ℕ) (ws heap frames bound structs types cells table : List ℕ) → Held c structs types cells table
+      → heap ≡ lent (heapOf words (c .cells)) ws → 256 ≤ length frames → 128 ≤ length bound → words ≤ 4096 → 2 * words ≤ length ws
+      → Ready (settingOf words c) (wholeHeap words limit) (heapOf words (c .cells)) (c .expr) ws heap frames bound table structs types
+  ready limit ws heap frames bound structs types cells table held e f b few room =
       record {
+        width-is = ap (λ (m : Format). m .width) (r .format-is);
+        low-is = refl;
+        high-is = refl;
+        low-above = omega arith;
+        high-within = omega arith;
         nodes-held = held .nodes-held;
         nodes-fill = held .nodes-fill;
         structs-held = held .structs-held;

@@ -29,6 +29,9 @@ use Rattle.calculus.proofs.Blameless.{blameless}
 use Rattle.image.specs.Content.{Content, settingOf, heapOf}
 use Rattle.image.specs.Parsing as reading
 use Rattle.image.specs.Image.{readImage}
+use Rattle.image.specs.declared.Format.{Format}
+use Rattle.image.proofs.Gives.{given-by}
+use Rattle.image.proofs.LoadLaws.{ContentRead, content-gives}
 use Rattle.codlinbell.proofs.Heaps.{heap-length}
 use Rattle.codlinbell.specs.Answered.{Answered, answered, readThen, judgedThen, contentVerdict, contentRun}
 use Rattle.codlinbell.specs.Promised.{settingIn, heapIn, Right, unread, untyped, runs, Blameless, StepsCounted, FromValue}
@@ -53,10 +56,12 @@ module _ (image ws : List ℕ) (limit : ℕ) where
   answered-right = read-right (readImage (heapWords ws) image) refl
 
 -- Malloc stays within the heap, and addresses are far below where sums wrap.
-pub sized : (ws : List ℕ) (c : Content) → Sized (settingIn ws c) (heapIn ws c)
-sized ws c =
+pub sized : (image ws : List ℕ) {c : Content} {next : ℕ} → readImage (heapWords ws) image ≡ reading.got c next → Sized (settingIn ws c) (heapIn ws c)
+sized image ws {c} {next} q =
     let h : length (heapIn ws c) ≡ heapWords ws = heap-length (heapWords ws) (c .cells) in
-    record { above = omega arith; within = omega arith; wide = omega arith }
+    let r : ContentRead (heapWords ws) image c next = given-by (content-gives (heapWords ws) image) q in
+    let w : c .format .width ≡ 32 = ap (λ (m : Format). m .width) (r .format-is) in
+    record { above = omega arith; within = omega arith; wide = rw w (omega arith) }
 
 -- the same, of a content that reads and has a type
 run-blameless : (image ws : List ℕ) (limit : ℕ) (c : Content) (next : ℕ) (κ : Kind) → readImage (heapWords ws) image ≡ reading.got c next
@@ -71,7 +76,7 @@ run-blameless image ws limit c next κ q t z =
       announced = accepted (settingIn ws c) (heapIn ws c) (c .expr) κ .1 t;
       heap = contentRun ws limit c .heap;
       left = refl;
-      end-good = blameless (settingIn ws c) (heapIn ws c) (c .expr) κ limit (sized ws c) t z;
+      end-good = blameless (settingIn ws c) (heapIn ws c) (c .expr) κ limit (sized image ws q) t z;
     }
 
 right-blameless : {image ws : List ℕ} {limit : ℕ} {a : Answered} → Right image ws limit a → (o : Outcome) → a .answer ≡ Ran o → o .first ≡ 0

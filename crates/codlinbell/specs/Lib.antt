@@ -1,8 +1,9 @@
--- What a reader must believe about the whole: the answer to an image over a lent heap, what a host in another language finds, and what the
--- runner prints; then what the contracts of the steps between say.
+-- To be believed: the answer to an image over a lent heap, what a host in another language finds, what the runner prints, and what is promised
+-- of all that.
 pub mod Answered
 pub mod Hosted
 pub mod Printed
 pub mod Promised
+-- Models of the code: how cells are placed, and when lent tables hold the content of an image.
 pub mod Placing
 pub mod Prepared

@@ -8,6 +8,11 @@ use Rattle.image.specs.Content.{Content}
 use Rattle.image.specs.Parsing.{got}
 use Rattle.image.specs.Image.{readImage}
 use Rattle.image.specs.Tabled.{Held}
+use Rattle.machine.specs.declared.Terms.{Terms}
+
+-- the terms of a script that may use the whole heap
+abbrev pub wholeHeap : (words limit : ℕ) → Terms
+wholeHeap words limit = record { words = words; low = 1; high = words; limit = limit }
 
 -- Tables that are long enough for any content of the image: no node takes less than a byte, and no cell less than three.
 pub record LongTables (image structs types cells nodes marks queue bound frames : List ℕ) : Type 0 where

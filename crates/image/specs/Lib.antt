@@ -1,15 +1,17 @@
--- What a reader must believe about images, in the order of "The image": how parts are read one after another, the tables, the
--- cells, the expression, and the whole; how it stands in lent tables of numbers; and what the code answers and leaves in those tables.
+-- To be believed, in the order of "The image": what it holds, how parts are read one after another, the tables, the cells, the expression,
+-- and the whole.
 pub mod Content
 pub mod Parsing
 pub mod Tables
 pub mod Cells
 pub mod Nodes
 pub mod Image
+-- Models of the code: how the content stands in lent tables of numbers, what can be said of it, and what the readers answer and leave in those
+-- tables.
 pub mod Tabled
+pub mod Shape
 pub mod Answers
 pub mod Filled
 pub mod Tabling
 pub mod Filling
-pub mod Shape
 pub mod Loaded

@@ -17,15 +17,15 @@ use Rattle.calculus.specs.Setting.{cell}
 use Rattle.calculus.proofs.Same.{not-held}
 use Rattle.image.specs.Content.{Placed, placed, heapOf}
 use Rattle.image.specs.Tabled.{cellRows}
-use Rattle.judge.specs.Tables.{numberAt, entryAt}
-use Rattle.judge.specs.Find.{entries}
-use Rattle.judge.specs.Readied.{Rising, none, more}
+use Rattle.judge.specs.Tables.{tableNumber, entryAt}
+use Rattle.judge.specs.Addresses.{entries}
+use Rattle.judge.specs.Premises.{CellsRise, none, more}
 use Rattle.judge.proofs.Lists.{in-row}
-use Rattle.judge.proofs.Tabled.{literalAt, HoldsHeap}
+use Rattle.judge.proofs.HeldTables.{literalAt, HoldsHeap}
 
 -- number k of the entry behind the first
 next : (p : Placed) (ps : List Placed) (j k : ℕ) → entryAt (cellRows (p ∷ ps)) (suc j) k ≡ entryAt (cellRows ps) j k
-unfolding cellRows numberAt
+unfolding cellRows tableNumber
 next p ps j k =
     let e : 3 * suc j + k ≡ suc (suc (suc (3 * j + k))) = omega arith in
     let d : suc (suc (suc (length (cellRows ps)))) / 3 ≡ suc (length (cellRows ps) / 3) = omega arith in
@@ -47,7 +47,7 @@ pub entries-rows : (ps : List Placed) → entries (cellRows ps) ≡ length ps
 entries-rows ps = omega (arith, rows ps)
 
 -- an entry's address is behind that of the cell before, and within the words
-address : {words a : ℕ} {ps : List Placed} → Rising words a ps → (j : ℕ) → j < length ps
+address : {words a : ℕ} {ps : List Placed} → CellsRise words a ps → (j : ℕ) → j < length ps
     → (a < entryAt (cellRows ps) j 0) × (entryAt (cellRows ps) j 0 ≤ words)
 unfolding cellRows
 address none j l = absurd (omega arith)
@@ -56,7 +56,7 @@ address (more {p} {ps} b w s r) (suc j) l =
     let (c, d) = address r j (omega arith) in
     rw (next p ps j 0) (omega (arith, c, d))
 
-rises : {words a : ℕ} {ps : List Placed} → Rising words a ps → (i j : ℕ) → i < j → j < length ps
+rises : {words a : ℕ} {ps : List Placed} → CellsRise words a ps → (i j : ℕ) → i < j → j < length ps
     → entryAt (cellRows ps) i 0 < entryAt (cellRows ps) j 0
 unfolding cellRows
 rises none i j h l = absurd (omega arith)
@@ -64,7 +64,7 @@ rises (more b w s r) i zero h l = absurd (omega arith)
 rises (more {p} {ps} b w s r) zero (suc j) h l = rw (first p ps 0, next p ps j 0) (address r j (omega arith) .0)
 rises (more {p} {ps} b w s r) (suc i) (suc j) h l = rw (next p ps i 0, next p ps j 0) (rises r i j (omega arith) (omega arith))
 
-exact : {words a : ℕ} {ps : List Placed} → Rising words a ps → (j : ℕ) → j < length ps
+exact : {words a : ℕ} {ps : List Placed} → CellsRise words a ps → (j : ℕ) → j < length ps
     → packed (unpacked (entryAt (cellRows ps) j 2)) ≡ entryAt (cellRows ps) j 2
 unfolding cellRows
 exact none j l = absurd (omega arith)
@@ -72,13 +72,13 @@ exact (more {p} {ps} b w s r) zero l = rw (first p ps 2) (ap packed (round-trip 
 exact (more {p} {ps} b w s r) (suc j) l = rw (next p ps j 2) (exact r j (omega arith))
 
 -- what stands at or before the first address is not touched by the cells
-untouched : {words a : ℕ} {ps : List Placed} → Rising words a ps → (H : Heap) (b : ℕ) → b ≤ a → look (placed ps H) b ≡ look H b
+untouched : {words a : ℕ} {ps : List Placed} → CellsRise words a ps → (H : Heap) (b : ℕ) → b ≤ a → look (placed ps H) b ≡ look H b
 unfolding placed
 untouched none H b l = refl
 untouched (more {p} {ps} h w s r) H b l =
     untouched r (update H (p .address) (p .held)) b (omega arith) ∙ look-other H (p .address) b (p .held) (λ e. omega arith)
 
-held : {words a : ℕ} {ps : List Placed} → Rising words a ps → (H : Heap) → length H ≡ words → (j : ℕ) → j < length ps
+held : {words a : ℕ} {ps : List Placed} → CellsRise words a ps → (H : Heap) → length H ≡ words → (j : ℕ) → j < length ps
     → look (placed ps H) (entryAt (cellRows ps) j 0) ≡ Holds (literalAt (cellRows ps) j)
 unfolding cellRows placed
 held none H e j l = absurd (omega arith)
@@ -92,7 +92,7 @@ held (more {p} {ps} b w s r) H e (suc j) l =
     (held r (update H (p .address) (p .held)) (length-update H (p .address) (p .held) ∙ e) j (omega arith))
 
 -- a word that is defined was, or is an entry
-defined : {words a : ℕ} {ps : List Placed} → Rising words a ps → (H : Heap) (b : ℕ) (d : Cell) → look (placed ps H) b ≡ Holds d
+defined : {words a : ℕ} {ps : List Placed} → CellsRise words a ps → (H : Heap) (b : ℕ) (d : Cell) → look (placed ps H) b ≡ Holds d
     → (look H b ≡ Holds d) ⊎ ((j : ℕ) × (j < length ps) × (entryAt (cellRows ps) j 0 ≡ b))
 unfolding cellRows placed
 defined none H b d e = inl e
@@ -105,7 +105,7 @@ defined (more {p} {ps} h w s r) H b d e =
     here (yes f) g = inr (0, omega arith, first p ps 0 ∙ sym f)
     here (no n) g = inl (sym (look-other H (p .address) b (p .held) n) ∙ g)
 
-pub holds-heap : {words : ℕ} {ps : List Placed} → Rising words 0 ps → HoldsHeap (heapOf words ps) (cellRows ps)
+pub holds-heap : {words : ℕ} {ps : List Placed} → CellsRise words 0 ps → HoldsHeap (heapOf words ps) (cellRows ps)
 holds-heap {words} {ps} r =
     record {
       rising = λ i j h l. rises r i j h (omega (arith, entries-rows ps));

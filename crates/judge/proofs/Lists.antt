@@ -10,25 +10,25 @@ use lib.ListN.{length, getD, drop, replicate, List·getD-eq-default}
 use lib.Seq.{drop-length}
 use borrow.Author.Tests.{lt-ltb, ltb-true}
 use Rattle.choice.specs.Choice.{choose}
-use Rattle.judge.specs.Tables.{numberAt}
+use Rattle.judge.specs.Tables.{tableNumber}
 
 pub past : (l : List ℕ) (n d : ℕ) → length l ≤ n → d ≡ getD l n d
 past l n d h = sym (List·getD-eq-default l d h)
 
-pub within : (l : List ℕ) (n d e : ℕ) → n < length l → getD l n d ≡ getD l n e
-within [] n d e h = absurd (omega arith)
-within (x ∷ l) zero d e h = refl
-within (x ∷ l) (suc n) d e h = within l n d e (omega arith)
+pub same-within : (l : List ℕ) (n d e : ℕ) → n < length l → getD l n d ≡ getD l n e
+same-within [] n d e h = absurd (omega arith)
+same-within (x ∷ l) zero d e h = refl
+same-within (x ∷ l) (suc n) d e h = same-within l n d e (omega arith)
 
 -- ---- the rows of a table
 module _ (width : ℕ) (table : List ℕ) (i k : ℕ) where
-  pub in-row : i < length table / width → numberAt width table i k ≡ getD table (width * i + k) 0
-  unfolding numberAt
+  pub in-row : i < length table / width → tableNumber width table i k ≡ getD table (width * i + k) 0
+  unfolding tableNumber
   in-row h = rw (lt-ltb i (length table / width) h)
 
   -- a number other than 0 is in a row of the table
-  pub has-number : (numberAt width table i k ≡ 0 → ⊥) → i < length table / width
-  unfolding numberAt
+  pub has-number : (tableNumber width table i k ≡ 0 → ⊥) → i < length table / width
+  unfolding tableNumber
   has-number n = go (ltb i (length table / width)) (ltb-true i (length table / width)) n
     where
       go : (t : Bool) → (t ≡ true → i < length table / width)
@@ -39,8 +39,8 @@ module _ (width : ℕ) (table : List ℕ) (i k : ℕ) where
 -- ---- marks
 
 -- a list of which the first i are 0 and that has no more than i is all 0
-pub filled : (entry marks : List ℕ) (i : ℕ) → marks ≡ replicate i 0 ++ drop i entry → length marks ≡ length entry → length marks ≤ i
+pub all-wiped : (entry marks : List ℕ) (i : ℕ) → marks ≡ replicate i 0 ++ drop i entry → length marks ≡ length entry → length marks ≤ i
     → i ≤ length entry → marks ≡ replicate (length entry) 0
-filled entry marks i e l h b =
+all-wiped entry marks i e l h b =
     let f : i ≡ length entry = omega arith in
     e ∙ rw (f, drop-length, append-nil)

@@ -14,15 +14,15 @@ use Rattle.calculus.specs.Typing.{whole}
 use Rattle.calculus.specs.Judge.{Verdict, good, judged}
 use Rattle.image.specs.Content.{Content, settingOf, heapOf}
 use Rattle.image.specs.Tabled.{Held}
-use Rattle.judge.specs.Readied.{Readied}
+use Rattle.judge.specs.Premises.{Readied}
 use Rattle.judge.specs.Literals.{firstBad}
-use Rattle.judge.specs.Find.{entries}
+use Rattle.judge.specs.Addresses.{entries}
 use Rattle.judge.specs.Nodes.{Judging}
 use Rattle.judge.specs.Script.{asJudged, asVerdict, judgedScript}
-use Rattle.judge.proofs.Tabled.{HoldsSetting, HoldsHeap}
+use Rattle.judge.proofs.HeldTables.{HoldsSetting, HoldsHeap}
 use Rattle.judge.proofs.Entries.{entries-rows, holds-heap}
-use Rattle.judge.proofs.Passed.{FirstBad, first-bad}
-use Rattle.judge.proofs.Meets.{bounds-none, Meets, meets-good, meets-bad, meets}
+use Rattle.judge.proofs.PassLaws.{FirstBad, first-bad}
+use Rattle.judge.proofs.NodeLaws.{bounds-none, Meets, meets-good, meets-bad, meets}
 
 -- a code of the table is that of the kind with its number; past the end both are int
 code-of : (ts : List Kind) (n : ℕ) → getD (map packed ts) n 1 ≡ packed (getD ts n Int)
@@ -33,7 +33,7 @@ code-of (κ ∷ ts) (suc n) = code-of ts n
 
 module _ {words : ℕ} {c : Content} {structs types cells table marks queue bound : List ℕ}
     (h : Held c structs types cells table) (r : Readied words c marks queue bound) where
-  holds-setting : HoldsSetting (settingOf words (c .tables)) structs types
+  holds-setting : HoldsSetting (settingOf words c) structs types
   holds-setting =
       record {
         count = h .structs-held .count;
@@ -49,7 +49,7 @@ module _ {words : ℕ} {c : Content} {structs types cells table marks queue boun
   count-cells : entries cells ≡ length (c .cells)
   count-cells = rw (h .cells-held) (entries-rows (c .cells))
 
-  bad-literal : FirstBad (settingOf words (c .tables)) (heapOf words (c .cells)) table (firstBad structs types cells table marks queue .first)
+  bad-literal : FirstBad (settingOf words c) (heapOf words (c .cells)) table (firstBad structs types cells table marks queue .first)
   bad-literal =
       first-bad holds-setting holds-cells table marks queue (omega (arith, count-cells, r .marks-room)) (omega (arith, count-cells, r .queue-room))
 
@@ -59,7 +59,7 @@ module _ {words : ℕ} {c : Content} {structs types cells table marks queue boun
   same-verdict meets-bad = refl
 
   pub right : asVerdict (judgedScript structs types cells table marks queue bound .verdict)
-      ≡ judged (settingOf words (c .tables)) (heapOf words (c .cells)) (c .expr)
+      ≡ judged (settingOf words c) (heapOf words (c .cells)) (c .expr)
   right =
       same-verdict
       (meets holds-setting bad-literal (h .nodes-held) (r .expr-small) whole [] Checked (length table / 4) bound (omega (arith, h .nodes-fill))

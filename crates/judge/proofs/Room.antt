@@ -7,17 +7,12 @@ use native.Mathlib.Omega.{arith}
 use lib.Dec.{eqb, ltb, leb}
 use lib.ListN.{length, length-set, getD, set}
 use borrow.Author.Tests.{ltb-true, leb-false}
-use Rattle.choice.specs.Choice.{choose, choose-case}
-use Rattle.judge.specs.Tables.{entryAt, rowAt, tagIn}
-use Rattle.judge.specs.Find.{present, covered, entries, place}
+use Rattle.choice.specs.Choice.{choose, choose-case, choose-told}
+use Rattle.judge.specs.Tables.{entryAt, nodeNumber, operationAt, tagIn}
+use Rattle.judge.specs.Addresses.{present, covered, entries, place}
 use Rattle.judge.specs.Marks.{Seen, seen, alone, marked}
-use Rattle.judge.specs.Literals.{Looking, on, off, span, claim, lookAlike, lookFields, lookWords, look, drain, literal, nodeLook, thenLook}
-
--- a property of a choice, with the test's outcome in hand
-pub choose-told : {A : Type 0} (P : A → Type 0) (t : Bool) (a b : Unit {0} → A) → (t ≡ true → P (a tt)) → (t ≡ false → P (b tt))
-    → P (choose t a b)
-choose-told P true a b p q = p refl
-choose-told P false a b p q = q refl
+use Rattle.judge.specs.Literals.{Looking, on, off, span, claim, lookAlike, lookFields, lookWords, lookAt, drain, literalLook}
+use Rattle.judge.specs.Literals.{isLiteral, nodeLook, thenLook}
 
 -- ---- the words that are found
 -- the `more` words behind entry j are in the table
@@ -47,23 +42,23 @@ covered-fits cells address more =
 
 -- ---- the queue
 -- from s to s′: the queue is as long as it was, and ends within it if it did
-pub record Keeps (s s′ : Seen) : Type 0 where
+pub record KeepsQueue (s s′ : Seen) : Type 0 where
   pub long : length (s′ .queue) ≡ length (s .queue)
   pub ends : s .tail ≤ length (s .queue) → s′ .tail ≤ length (s′ .queue)
 
-keeps-none : (s : Seen) → Keeps s s
+keeps-none : (s : Seen) → KeepsQueue s s
 keeps-none s = record { long = refl; ends = λ h. h }
 
-keeps-then : {s s′ s″ : Seen} → Keeps s s′ → Keeps s′ s″ → Keeps s s″
+keeps-then : {s s′ s″ : Seen} → KeepsQueue s s′ → KeepsQueue s′ s″ → KeepsQueue s s″
 keeps-then k l = record { long = l .long ∙ k .long; ends = λ h. l .ends (k .ends h) }
 
-keeps-marked : (code reach j : ℕ) (s : Seen) → Keeps s (marked code reach j s)
+keeps-marked : (code reach j : ℕ) (s : Seen) → KeepsQueue s (marked code reach j s)
 unfolding marked
 keeps-marked code reach j s =
-    choose-case (Keeps s) (eqb (getD (s .marks) j 0) 0) _ (λ _. s)
-    (choose-case (Keeps s) (eqb (code % 2) 1) (λ _. seen (set (s .marks) j reach) (s .queue) (s .tail)) _
+    choose-case (KeepsQueue s) (eqb (getD (s .marks) j 0) 0) _ (λ _. s)
+    (choose-case (KeepsQueue s) (eqb (code % 2) 1) (λ _. seen (set (s .marks) j reach) (s .queue) (s .tail)) _
     (record { long = refl; ends = λ h. h })
-    (choose-told (Keeps s) (ltb (s .tail) (length (s .queue)))
+    (choose-told (KeepsQueue s) (ltb (s .tail) (length (s .queue)))
     (λ _. seen (set (s .marks) j reach) (set (s .queue) (s .tail) j) (s .tail + 1)) (λ _. s)
     (λ t. record { long = simp length-set; ends = λ _. simp length-set (omega (arith, ltb-true (s .tail) (length (s .queue)) t)) })
     (λ _. keeps-none s)))
@@ -71,10 +66,10 @@ keeps-marked code reach j s =
 
 -- what is seen behind a look keeps it so
 pub data After (s : Seen) : Looking → Type 0 where
-  after-on : {s′ : Seen} → Keeps s s′ → After s (on s′)
+  after-on : {s′ : Seen} → KeepsQueue s s′ → After s (on s′)
   after-off : {marks queue : List ℕ} → After s (off marks queue)
 
-more-after : {s s′ : Seen} → Keeps s s′ → (l : Looking) → After s′ l → After s l
+more-after : {s s′ : Seen} → KeepsQueue s s′ → (l : Looking) → After s′ l → After s l
 more-after k (on s″) (after-on l) = after-on (keeps-then k l)
 more-after k (off marks queue) after-off = after-off
 
@@ -107,8 +102,8 @@ module _ (structs types cells : List ℕ) where
       (fields-after code first left (i + 1) (marked (claim structs types code i) alone (first + i) s)))
       after-off
 
-  pub look-after : (value code : ℕ) (s : Seen) → After s (look structs types cells value code s)
-  unfolding look
+  pub look-after : (value code : ℕ) (s : Seen) → After s (lookAt structs types cells value code s)
+  unfolding lookAt
   look-after value code s =
       let k : ℕ = span structs value code in
       let j : ℕ = covered cells value (k - 1) in
@@ -126,20 +121,21 @@ module _ (structs types cells : List ℕ) where
   drain-after zero head s = after-on (keeps-none s)
   drain-after (suc deep) head s =
       choose-case (After s) (ltb head (s .tail))
-      (λ _. thenLook (look structs types cells (entryAt cells (getD (s .queue) head 0) 1) (entryAt cells (getD (s .queue) head 0) 2) s) (drain structs types cells deep (head + 1)))
+      (λ _. thenLook (lookAt structs types cells (entryAt cells (getD (s .queue) head 0) 1) (entryAt cells (getD (s .queue) head 0) 2) s)
+      (drain structs types cells deep (head + 1)))
       (λ _. on s)
       (then-after _ _ (look-after _ _ s) (drain-after deep (head + 1)))
       (after-on (keeps-none s))
 
-  pub literal-after : (value code : ℕ) (s : Seen) → After s (literal structs types cells value code s)
-  unfolding literal
+  pub literal-after : (value code : ℕ) (s : Seen) → After s (literalLook structs types cells value code s)
+  unfolding literalLook
   literal-after value code s = then-after _ _ (look-after value code s) (drain-after (length (s .queue)) (s .tail))
 
   pub node-after : (nodes : List ℕ) (i : ℕ) (s : Seen) → After s (nodeLook structs types cells nodes i s)
   unfolding nodeLook
   node-after nodes i s =
-      choose-case (After s) (eqb (rowAt nodes i 0) 0) (λ _. literal structs types cells (rowAt nodes i 1) (rowAt nodes i 2) s) (λ _. on s)
-      (literal-after (rowAt nodes i 1) (rowAt nodes i 2) s)
+      choose-case (After s) (isLiteral (operationAt nodes i)) (λ _. literalLook structs types cells (nodeNumber nodes i 1) (nodeNumber nodes i 2) s) (λ _. on s)
+      (literal-after (nodeNumber nodes i 1) (nodeNumber nodes i 2) s)
       (after-on (keeps-none s))
 
 -- the answer's queue ends within it

@@ -15,7 +15,7 @@ use Rattle.calculus.specs.Setting.{Setting, fieldsOf, size, wordKind, checkedPo
 use Rattle.calculus.specs.Literal.{isBase}
 use Rattle.judge.specs.Tables.{tagIn, sizeOf}
 use Rattle.judge.specs.Literals.{span, claim}
-use Rattle.judge.proofs.Tabled.{HoldsSetting}
+use Rattle.judge.proofs.HeldTables.{HoldsSetting}
 
 -- which kind a code is of
 pub data Shape (code : ℕ) : Type 0 where

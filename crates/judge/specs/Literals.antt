@@ -1,13 +1,16 @@
 -- The literal check as the code goes about it: a literal's words are looked for and marked, what was marked is looked at in turn, and
 -- the pass ends at the first literal that is off.
 use Prim.Native.Nat.{ℕ, zero, suc, _+_, _-_, _/_, _%_}
+use mathlib.Core.Bool.{Bool, true, false}
 use mathlib.Core.List.{List}
 use lib.Dec.{eqb, ltb, leb}
 use lib.ListN.{length, getD, set, replicate}
 use Rattle.choice.specs.Choice.{choose}
 use Rattle.cells.specs.Code.{numberIn}
-use Rattle.judge.specs.Tables.{rowAt, entryAt, fieldAt, codeOf, tagIn, sizeOf}
-use Rattle.judge.specs.Find.{entries, covered}
+use Rattle.calculus.specs.declared.Operation.{Operation}
+use Rattle.calculus.specs.declared.Operation.the-variants as op
+use Rattle.judge.specs.Tables.{nodeNumber, operationAt, entryAt, fieldAt, codeOf, tagIn, sizeOf}
+use Rattle.judge.specs.Addresses.{entries, covered}
 use Rattle.judge.specs.Marks.{Seen, seen, alone, marked}
 use Rattle.judge.specs.declared.Looked.{Looked}
 use Rattle.judge.specs.declared.Looked.the-variants.{On, Off}
@@ -35,6 +38,18 @@ span structs value code =
 unfoldable pub claim : (structs types : List ℕ) (code i : ℕ) → ℕ
 claim structs types code i =
     choose (eqb (tagIn code) 2) (λ _. codeOf types (fieldAt structs (numberIn code) i)) (λ _. codeOf types (numberIn code))
+
+abbrev pub isLiteral : Operation → Bool
+isLiteral op.Literal = true
+isLiteral op.Variable = false
+isLiteral op.Let = false
+isLiteral op.Malloc = false
+isLiteral op.Unchecked = false
+isLiteral op.Cast = false
+isLiteral op.Read = false
+isLiteral (op.Acts o) = false
+isLiteral op.Field = false
+isLiteral op.Unknown = false
 
 -- the first of the literals that are off, or the count of nodes, and the lent lists
 pub record Found : Type 0 where
@@ -80,8 +95,8 @@ module _ (structs types cells : List ℕ) where
       (λ _. lookAlike cells (claim structs types code 0) count count first s)
 
   -- the words that a literal needs are there and have the codes claimed: then they are seen
-  unfoldable pub look : (value code : ℕ) → Seen → Looking
-  look value code s =
+  unfoldable pub lookAt : (value code : ℕ) → Seen → Looking
+  lookAt value code s =
       choose (eqb (span structs value code) 0) (λ _. on s) λ _.
       choose (eqb (covered cells value (span structs value code - 1)) (entries cells)) (λ _. off (s .marks) (s .queue)) λ _.
       lookWords code (covered cells value (span structs value code - 1)) (span structs value code) s
@@ -91,17 +106,17 @@ module _ (structs types cells : List ℕ) where
   drain zero head s = on s
   drain (suc deep) head s =
       choose (ltb head (s .tail))
-      (λ _. thenLook (look (entryAt cells (getD (s .queue) head 0) 1) (entryAt cells (getD (s .queue) head 0) 2) s) (drain deep (head + 1)))
+      (λ _. thenLook (lookAt (entryAt cells (getD (s .queue) head 0) 1) (entryAt cells (getD (s .queue) head 0) 2) s) (drain deep (head + 1)))
       (λ _. on s)
 
   -- a literal and all that is reached from it
-  unfoldable pub literal : (value code : ℕ) → Seen → Looking
-  literal value code s = thenLook (look value code s) (drain (length (s .queue)) (s .tail))
+  unfoldable pub literalLook : (value code : ℕ) → Seen → Looking
+  literalLook value code s = thenLook (lookAt value code s) (drain (length (s .queue)) (s .tail))
 
   module _ (nodes : List ℕ) where
     -- node i, if it is a literal
     unfoldable pub nodeLook : ℕ → Seen → Looking
-    nodeLook i s = choose (eqb (rowAt nodes i 0) 0) (λ _. literal (rowAt nodes i 1) (rowAt nodes i 2) s) (λ _. on s)
+    nodeLook i s = choose (isLiteral (operationAt nodes i)) (λ _. literalLook (nodeNumber nodes i 1) (nodeNumber nodes i 2) s) (λ _. on s)
 
     -- `left` nodes from i on
     unfoldable pub pass : (left i : ℕ) → Seen → Found

@@ -5,18 +5,24 @@ use lib.Dec.{eqb, ltb}
 use lib.ListN.{length, getD}
 use Rattle.choice.specs.Choice.{choose}
 use Rattle.cells.specs.Code.{numberIn, countIn}
+use Rattle.calculus.specs.Operations.{operationOf}
+use Rattle.calculus.specs.declared.Operation.{Operation}
 
 -- number k of row i of a table whose rows have this width; a row that isn't whole isn't there
-unfoldable pub numberAt : (width : ℕ) (table : List ℕ) (i k : ℕ) → ℕ
-numberAt width table i k = choose (ltb i (length table / width)) (λ _. getD table (width * i + k) 0) (λ _. 0)
+unfoldable pub tableNumber : (width : ℕ) (table : List ℕ) (i k : ℕ) → ℕ
+tableNumber width table i k = choose (ltb i (length table / width)) (λ _. getD table (width * i + k) 0) (λ _. 0)
 
 -- number k of node i's row: code, argument, packed kind or target, number of the second part
-abbrev pub rowAt : List ℕ → ℕ → ℕ → ℕ
-rowAt nodes i k = numberAt 4 nodes i k
+abbrev pub nodeNumber : List ℕ → ℕ → ℕ → ℕ
+nodeNumber nodes i k = tableNumber 4 nodes i k
+
+-- what node i does, by its code
+abbrev pub operationAt : List ℕ → ℕ → Operation
+operationAt nodes i = operationOf (nodeNumber nodes i 0)
 
 -- number k of entry j of the cell table: address, value, code of the kind
 abbrev pub entryAt : List ℕ → ℕ → ℕ → ℕ
-entryAt cells j k = numberAt 3 cells j k
+entryAt cells j k = tableNumber 3 cells j k
 
 -- the word type number of field i of struct s
 abbrev pub fieldAt : List ℕ → ℕ → ℕ → ℕ

@@ -1,5 +1,5 @@
 // The type check: "Typing starts after the whole image is read." The literals are judged over the cell table first, then the nodes.
-ghost use Rattle.judge.specs.Script.{Answers};
+ghost use Rattle.judge.specs.Script.{ScriptJudged};
 use crate::literals::first_bad;
 use crate::nodes::judge_node;
 use calculus::Refusal;
@@ -7,10 +7,11 @@ use cells::Kind;
 use cells::Mode;
 use cells::unpack;
 
-mod find;
+mod addresses;
 mod literals;
 mod marks;
 mod nodes;
+mod parts;
 mod rules;
 mod tables;
 
@@ -21,7 +22,7 @@ pub enum Judged {
 }
 
 // The verdict on a node, its type by its code.
-pub enum Told {
+pub enum NodeTold {
     Good(u64),
     Bad(Refusal),
 }
@@ -45,7 +46,7 @@ pub fn judge_script(
     queue: &mut [u64],
     bound: &mut [u64],
 ) -> Judged
-    ensures { λ r. ⌜ Answers (now (structs .entry)) (now (types .entry)) (now (cells .entry)) (now (nodes .entry))
+    ensures { λ r. ⌜ ScriptJudged (now (structs .entry)) (now (types .entry)) (now (cells .entry)) (now (nodes .entry))
         (now (marks .entry)) (now (queue .entry)) (now (bound .entry))
         r (now (marks .exit)) (now (queue .exit)) (now (bound .exit)) ⌝ }
 {
@@ -61,7 +62,7 @@ pub fn judge_script(
         Mode::Checked,
         0,
     ) {
-        Told::Good(code) => Judged::Good(unpack(code)),
-        Told::Bad(refusal) => Judged::Bad(refusal),
+        NodeTold::Good(code) => Judged::Good(unpack(code)),
+        NodeTold::Bad(refusal) => Judged::Bad(refusal),
     }
 }

@@ -3,9 +3,9 @@
 ghost use Prim.Native.Nat.{_+_, _<_, _≤_, _^_};
 ghost use mathlib.Core.Path.{_≡_};
 ghost use Rattle.judge.specs.Marks.{seen};
-ghost use Rattle.judge.specs.Literals.{span, claim, lookFields, lookAlike, look, literal, nodeLook, firstBad, looking, found};
+ghost use Rattle.judge.specs.Literals.{span, claim, lookFields, lookAlike, lookAt, literalLook, isLiteral, nodeLook, firstBad, looking, found};
 use crate::Looked;
-use crate::find::covered;
+use crate::addresses::covered;
 use crate::marks::mark;
 use crate::marks::mark_at;
 use crate::marks::put_mark;
@@ -13,10 +13,12 @@ use crate::marks::wipe;
 use crate::tables::entry;
 use crate::tables::field_at;
 use crate::tables::index;
+use crate::tables::operation_at;
 use crate::tables::row;
 use crate::tables::size_of;
 use crate::tables::type_code;
 use crate::tables::wide;
+use calculus::Operation;
 use cells::word;
 
 // How many words a literal needs: those that its target covers, if it is a checked pointer other than 0.
@@ -117,7 +119,7 @@ fn look_alike(
 }
 
 // The words that a literal needs are there and have the codes claimed: then they are marked.
-fn look(
+fn look_at(
     marks: &mut [u16],
     queue: &mut [u64],
     structs: &[u64],
@@ -128,7 +130,7 @@ fn look(
     code: u64,
 ) -> Looked
     ensures { λ r. ⌜ looking r (now (marks .exit)) (now (queue .exit))
-        ≡ look (now (structs .entry)) (now (types .entry)) (now (cells .entry)) value code (seen (now (marks .entry)) (now (queue .entry)) tail) ⌝ }
+        ≡ lookAt (now (structs .entry)) (now (types .entry)) (now (cells .entry)) value code (seen (now (marks .entry)) (now (queue .entry)) tail) ⌝ }
 {
     let needed = span(structs, value, code);
     if needed == 0 {
@@ -157,7 +159,7 @@ fn look(
 
 // A literal and all that is reached from it: the entries that join the queue are looked at in turn. The look is called in one place, so
 // that the compiler can put it there and a word that needs no other costs no call.
-fn literal(
+fn literal_look(
     marks: &mut [u16],
     queue: &mut [u64],
     structs: &[u64],
@@ -169,14 +171,14 @@ fn literal(
 ) -> Looked
     requires { do ⌜ tail ≤ (← ⟦queue.len()⟧) ⌝ }
     ensures { λ r. ⌜ looking r (now (marks .exit)) (now (queue .exit))
-        ≡ literal (now (structs .entry)) (now (types .entry)) (now (cells .entry)) value code (seen (now (marks .entry)) (now (queue .entry)) tail) ⌝ }
+        ≡ literalLook (now (structs .entry)) (now (types .entry)) (now (cells .entry)) value code (seen (now (marks .entry)) (now (queue .entry)) tail) ⌝ }
 {
     let mut head = tail;
     let mut end = tail;
     let mut held = value;
     let mut kind = code;
     loop {
-        let Looked::On(next) = look(marks, queue, structs, types, cells, end, held, kind) else {
+        let Looked::On(next) = look_at(marks, queue, structs, types, cells, end, held, kind) else {
             return Looked::Off;
         };
         if next <= head {
@@ -187,6 +189,23 @@ fn literal(
         kind = entry(cells, j, 2);
         end = next;
         head += 1;
+    }
+}
+
+fn is_literal(operation: Operation) -> bool
+    ensures { λ r. ⌜ r ≡ isLiteral operation ⌝ }
+{
+    match operation {
+        Operation::Literal => true,
+        Operation::Variable => false,
+        Operation::Let => false,
+        Operation::Malloc => false,
+        Operation::Unchecked => false,
+        Operation::Cast => false,
+        Operation::Read => false,
+        Operation::Acts(_) => false,
+        Operation::Field => false,
+        Operation::Unknown => false,
     }
 }
 
@@ -206,10 +225,10 @@ fn node_look(
         ≡ nodeLook (now (structs .entry)) (now (types .entry)) (now (cells .entry)) (now (nodes .entry)) i
         (seen (now (marks .entry)) (now (queue .entry)) tail) ⌝ }
 {
-    if row(nodes, i, 0) == 0 {
+    if is_literal(operation_at(nodes, i)) {
         let value = row(nodes, i, 1);
         let code = row(nodes, i, 2);
-        return literal(marks, queue, structs, types, cells, tail, value, code);
+        return literal_look(marks, queue, structs, types, cells, tail, value, code);
     }
     Looked::On(tail)
 }

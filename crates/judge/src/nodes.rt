@@ -3,18 +3,19 @@ ghost use Prim.Native.Nat.{_+_, _<_, _^_};
 ghost use mathlib.Core.Path.{_≡_};
 ghost use mathlib.Core.Bool.{true, false};
 ghost use Rattle.judge.specs.Nodes.{judging, judgeNode};
-use crate::Told;
-use crate::rules::access_sum;
-use crate::rules::bind_kind;
-use crate::rules::inner_lets;
-use crate::rules::inner_mode;
-use crate::rules::is_access;
-use crate::rules::leaf_rule;
+use crate::NodeTold;
+use crate::parts::bind_kind;
+use crate::parts::inner_lets;
+use crate::parts::inner_mode;
+use crate::parts::is_access;
+use crate::parts::on_wholes;
+use crate::parts::parts;
+use crate::rules::leaf_told;
 use crate::rules::no_rule;
-use crate::rules::one_rule;
-use crate::rules::parts;
-use crate::rules::two_rule;
+use crate::rules::one_told;
+use crate::rules::two_told;
 use crate::tables::index;
+use crate::tables::operation_at;
 use crate::tables::row;
 use cells::Mode;
 
@@ -30,7 +31,7 @@ pub fn judge_node(
     lets: usize,
     mode: Mode,
     i: usize,
-) -> Told
+) -> NodeTold
     requires { ⌜ lets + left < 2 ^ 64 ⌝ }
     ensures { λ r. ⌜ judging r (now (bound .exit))
         ≡ judgeNode (now (structs .entry)) (now (types .entry)) (now (nodes .entry)) bad left false lets mode i (now (bound .entry)) ⌝ }
@@ -39,29 +40,29 @@ pub fn judge_node(
         return no_rule(i);
     }
     let rest = left - 1;
-    let code = row(nodes, i, 0);
-    let count = parts(code);
+    let operation = operation_at(nodes, i);
+    let count = parts(operation);
     if count == 0 {
-        return leaf_rule(bound, structs, nodes, bad, lets, i);
+        return leaf_told(bound, structs, nodes, bad, lets, i, operation);
     }
-    let part = if is_access(code) {
+    let part = if is_access(operation) {
         judge_access(bound, rest, structs, types, nodes, bad, lets, mode, i + 1)
     } else {
-        let inside = inner_mode(code, mode);
+        let inside = inner_mode(operation, mode);
         judge_node(bound, rest, structs, types, nodes, bad, lets, inside, i + 1)
     };
-    let Told::Good(x) = part else {
+    let NodeTold::Good(x) = part else {
         return part;
     };
     if count == 1 {
-        return one_rule(structs, types, nodes, mode, i, x);
+        return one_told(structs, types, nodes, mode, i, operation, x);
     }
-    bind_kind(bound, code, lets, x);
+    bind_kind(bound, operation, lets, x);
     let second = index(row(nodes, i, 3));
-    let deep = inner_lets(code, lets);
+    let deep = inner_lets(operation, lets);
     match judge_node(bound, rest, structs, types, nodes, bad, deep, mode, second) {
-        Told::Good(y) => two_rule(types, nodes, mode, i, x, y),
-        Told::Bad(refusal) => Told::Bad(refusal),
+        NodeTold::Good(y) => two_told(types, mode, i, false, operation, x, y),
+        NodeTold::Bad(refusal) => NodeTold::Bad(refusal),
     }
 }
 
@@ -76,7 +77,7 @@ fn judge_access(
     lets: usize,
     mode: Mode,
     i: usize,
-) -> Told
+) -> NodeTold
     requires { ⌜ lets + left < 2 ^ 64 ⌝ }
     ensures { λ r. ⌜ judging r (now (bound .exit))
         ≡ judgeNode (now (structs .entry)) (now (types .entry)) (now (nodes .entry)) bad left true lets mode i (now (bound .entry)) ⌝ }
@@ -84,16 +85,17 @@ fn judge_access(
     if left == 0 {
         return no_rule(i);
     }
-    if row(nodes, i, 0) == 8 {
+    let operation = operation_at(nodes, i);
+    if on_wholes(operation) {
         let rest = left - 1;
         let side = judge_node(bound, rest, structs, types, nodes, bad, lets, mode, i + 1);
-        let Told::Good(x) = side else {
+        let NodeTold::Good(x) = side else {
             return side;
         };
         let second = index(row(nodes, i, 3));
         return match judge_node(bound, rest, structs, types, nodes, bad, lets, mode, second) {
-            Told::Good(y) => access_sum(i, x, y),
-            Told::Bad(refusal) => Told::Bad(refusal),
+            NodeTold::Good(y) => two_told(types, mode, i, true, operation, x, y),
+            NodeTold::Bad(refusal) => NodeTold::Bad(refusal),
         };
     }
     judge_node(bound, left, structs, types, nodes, bad, lets, mode, i)

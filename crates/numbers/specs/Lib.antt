@@ -1,3 +1,3 @@
--- What a reader must believe about numbers in an image, in the order of "Numbers in the image".
+-- To be believed, in the order of "Numbers in the image": the widths, and how a number is read.
 pub mod Width
 pub mod Reading

@@ -7,20 +7,20 @@ use lib.ListN.{length}
 use Rattle.cells.specs.declared.Mode.the-variants.{Checked}
 use Rattle.judge.specs.Literals.{found, firstBad}
 use Rattle.judge.specs.Nodes.{judging, judgeNode}
-use Rattle.judge.specs.Script.{Answered, answered, asJudged, asVerdict, judgedScript, Answers}
-use Rattle.judge.specs.declared.Told.{Told}
+use Rattle.judge.specs.Script.{Scripted, scripted, asJudged, asVerdict, judgedScript, ScriptJudged}
+use Rattle.judge.specs.declared.NodeTold.{NodeTold}
 use Rattle.judge.proofs.Right.{right}
 use borrow.Author.Needs.{needs}
 use Rattle.judge.proofs.judge_script.Statement.{statement}
 use Rattle.judge.proofs.judge_script.Tie as tie
 
-together : (structs types cells nodes marks queue bound marks′ queue′ bound′ : List ℕ) (first : ℕ) (t : Told)
+together : (structs types cells nodes marks queue bound marks′ queue′ bound′ : List ℕ) (first : ℕ) (t : NodeTold)
     → found first marks′ queue′ ≡ firstBad structs types cells nodes marks queue
     → judging t bound′ ≡ judgeNode structs types nodes first (length nodes / 4) false 0 Checked 0 bound
-    → Answers structs types cells nodes marks queue bound (asJudged t) marks′ queue′ bound′
+    → ScriptJudged structs types cells nodes marks queue bound (asJudged t) marks′ queue′ bound′
 together structs types cells nodes marks queue bound marks′ queue′ bound′ first t e f =
-    let m : answered (asJudged t) marks′ queue′ bound′ ≡ judgedScript structs types cells nodes marks queue bound = rw (← e, ← f) in
-    record { model = m; definition = λ words c h r. ap (λ (a : Answered). asVerdict (a .verdict)) m ∙ right h r }
+    let m : scripted (asJudged t) marks′ queue′ bound′ ≡ judgedScript structs types cells nodes marks queue bound = rw (← e, ← f) in
+    record { model = m; definition = λ words c h r. ap (λ (a : Scripted). asVerdict (a .verdict)) m ∙ right h r }
 
 first-bad-requires : tie.Need-first-bad-requires
 first-bad-requires c κs = search needs

@@ -7,7 +7,7 @@ use Prim.Native.Nat.{ℕ, _+_, _-_, _<_, _≤_}
 use native.Mathlib.Omega.{arith}
 use lib.ListN.{length, length-set, set, drop, replicate}
 use borrow.Author.Fill.{fill-none, fill-more}
-use Rattle.judge.proofs.Lists.{filled}
+use Rattle.judge.proofs.Lists.{all-wiped}
 use Rattle.judge.proofs.marks.wipe.Statement.{statement}
 use Rattle.judge.proofs.marks.wipe.Tie as tie
 
@@ -52,7 +52,7 @@ same-length : tie.Need-same-length Inv-loop μ-loop
 same-length c = c .before .loop .inv .long
 
 returns : tie.Need-returns Inv-loop μ-loop
-returns c = filled _ _ _ (c .before .loop .inv .same) (c .before .loop .inv .long) (c .loop-test .left) (c .before .loop .inv .within)
+returns c = all-wiped _ _ _ (c .before .loop .inv .same) (c .before .loop .inv .long) (c .loop-test .left) (c .before .loop .inv .within)
 
 pub wipe-spec : {M : Type 1} → statement M
 wipe-spec =
