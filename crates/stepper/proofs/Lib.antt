@@ -1,5 +1,9 @@
--- That the machine over rows runs as the definition says.
+-- What the functions rest on, and that the machine over rows runs as the definition says.
 pub mod Close
 pub mod Context
 pub mod Continuations
 pub mod Advances
+pub mod Others
+pub mod Settled
+pub mod Looks
+pub mod Onward

@@ -1,2 +1,7 @@
--- Models of the code: the machine over rows, with lists of cells in the place of lent memory.
+-- Models of the code: what each function does, with lists in the place of lent memory; and the machine over rows, with lists of cells.
 pub mod Moves
+pub mod States
+pub mod Yields
+pub mod Malloc
+pub mod Stack
+pub mod Turns
