@@ -7,3 +7,11 @@ pub mod Others
 pub mod Settled
 pub mod Looks
 pub mod Onward
+pub mod GivesAs
+pub mod Zeroed
+pub mod Listed
+pub mod Fitting
+pub mod Does
+pub mod Follows
+pub mod NextStep
+pub mod RunSteps

@@ -1,7 +1,8 @@
 // A row, the rows up to and including the next step, and the run.
 ghost use mathlib.Core.Path.{_≡_};
 ghost use Rattle.tables.specs.Rows.{wholeRows};
-ghost use Rattle.stepper.specs.Turns.{rowTurn, advanced, runEnd, stepRun};
+ghost use Rattle.stepper.specs.Turns.{rowTurn, advanced};
+ghost use Rattle.stepper.specs.Entry.{StepRan};
 ghost use Rattle.stepper.specs.States.{turnedTo};
 use crate::StepHint;
 use crate::StepState;
@@ -36,7 +37,7 @@ pub fn run(
     types: &[u64],
     terms: StepTerms,
 ) -> Outcome
-    ensures { λ r. ⌜ runEnd r (now (heap .exit)) (now (stack .exit)) (now (bound .exit)) ≡ stepRun (now (rows .entry)) (now (structs .entry)) (now (types .entry)) terms (now (heap .entry)) (now (stack .entry)) (now (bound .entry)) ⌝ }
+    ensures { λ r. ⌜ StepRan (now (rows .entry)) (now (structs .entry)) (now (types .entry)) terms (now (heap .entry)) (now (stack .entry)) (now (bound .entry)) r (now (heap .exit)) (now (stack .exit)) (now (bound .exit)) ⌝ }
 {
     let mut s = StepState {
         row: 0,

@@ -14,6 +14,8 @@ use Rattle.stepper.specs.declared.StepTurn.{StepTurn}
 use Rattle.stepper.specs.declared.StepTurn.the-variants.{Goes, Steps, Ends}
 use Rattle.stepper.specs.States.{Turned, turnedTo}
 use Rattle.stepper.specs.Turns.{runEnd, advanced, drives, startState, stepRun}
+use Rattle.stepper.specs.Entry.{StepRan}
+use Rattle.stepper.proofs.RunSteps.{as-ran}
 use Rattle.stepper.proofs.Onward.{on-advanced, step-counted}
 use borrow.Author.Needs.{needs}
 use Rattle.stepper.proofs.turns.run.Statement.{statement}
@@ -25,6 +27,7 @@ record Driving (heap₀ stack₀ bound₀ rows structs types : List ℕ) (T : St
   stack-long : length stack ≡ length stack₀
   bound-long : length bound ≡ length bound₀
   narrow : T .limit < 2 ^ 64
+  short : wholeRows rows < 2 ^ 62
 
 module _ {heap₀ stack₀ bound₀ rows structs types : List ℕ} {T : StepTerms} {heap stack bound : List ℕ} {s : StepState} (m : Driving heap₀ stack₀ bound₀ rows structs types T heap stack bound s) {heap′ stack′ bound′ : List ℕ} {r : StepTurn} (e : turnedTo r heap′ stack′ bound′ ≡ advanced rows structs types T (wholeRows rows) s heap stack bound) where
   -- what the rows up to the next step came to, and then the rest
@@ -49,12 +52,12 @@ module _ {heap₀ stack₀ bound₀ rows structs types : List ℕ} {T : StepTerm
       let k = step-counted (rw (← e, z) at (on-advanced rows structs types T (wholeRows rows) s heap stack bound)) (m .narrow) in
       (k .0, omega (arith, k .1))
 
-  ended : {o : Outcome} → r ≡ Ends o → runEnd o heap′ stack′ bound′ ≡ stepRun rows structs types T heap₀ stack₀ bound₀
-  ended z = sym (m .same ∙ drives-ended (T .limit - s .steps) z)
+  ended : {o : Outcome} → r ≡ Ends o → StepRan rows structs types T heap₀ stack₀ bound₀ o heap′ stack′ bound′
+  ended z = as-ran (m .short) (sym (m .same ∙ drives-ended (T .limit - s .steps) z))
 
   spent : {s′ : StepState} → r ≡ Goes s′
-      → runEnd (outcomeOf Stuck (s′ .steps) (s′ .first)) heap′ stack′ bound′ ≡ stepRun rows structs types T heap₀ stack₀ bound₀
-  spent z = sym (m .same ∙ drives-spent (T .limit - s .steps) z)
+      → StepRan rows structs types T heap₀ stack₀ bound₀ (outcomeOf Stuck (s′ .steps) (s′ .first)) heap′ stack′ bound′
+  spent z = as-ran (m .short) (sym (m .same ∙ drives-spent (T .limit - s .steps) z))
 
   less : {s′ : StepState} → r ≡ Steps s′ → T .limit - s′ .steps < T .limit - s .steps
   less z = let k = counts z in omega (arith, k .0, k .1)
@@ -71,14 +74,15 @@ module _ {heap₀ stack₀ bound₀ rows structs types : List ℕ} {T : StepTerm
         stack-long = ls ∙ m .stack-long;
         bound-long = lb ∙ m .bound-long;
         narrow = m .narrow;
+        short = m .short;
       }
 
-start : {heap stack bound rows structs types : List ℕ} {T : StepTerms} → T .limit < 2 ^ 64
+start : {heap stack bound rows structs types : List ℕ} {T : StepTerms} → T .limit < 2 ^ 64 → wholeRows rows < 2 ^ 62
     → Driving heap stack bound rows structs types T heap stack bound (startState rows structs types T)
 unfolding stepRun
-start {T = T} l =
+start {T = T} l h =
     let z : T .limit - 0 ≡ T .limit = omega arith in
-    record { same = rw z; heap-long = refl; stack-long = refl; bound-long = refl; narrow = l }
+    record { same = rw z; heap-long = refl; stack-long = refl; bound-long = refl; narrow = l; short = h }
 
 abbrev Inv-loop : tie.InvT-loop
 Inv-loop heap₀ stack₀ bound₀ rows structs types terms s₀ heap stack bound s = Driving heap₀ stack₀ bound₀ rows structs types terms heap stack bound s
@@ -87,7 +91,7 @@ abbrev μ-loop : tie.MeasureT-loop
 μ-loop heap₀ stack₀ bound₀ rows structs types terms s₀ heap stack bound s = terms .limit - s .steps
 
 loop-holds : tie.Need-loop-holds Inv-loop μ-loop
-loop-holds c = start (omega arith)
+loop-holds c = start (omega arith) (omega arith)
 
 advance-requires : tie.Need-advance-requires Inv-loop μ-loop
 advance-requires c κs = search needs
