@@ -14,13 +14,13 @@ use Rattle.calculus.specs.Steps.{replace}
 use Rattle.image.specs.Shape.{Scoped, scoped-lit, scoped-var, scoped-malloc, scoped-bind, scoped-one, scoped-two}
 use Rattle.stepper.specs.Moves.{nought}
 
-abbrev pub literal : Cell → Expr
-literal c = lit (c .value) (c .kind)
+abbrev pub cellLit : Cell → Expr
+cellLit c = lit (c .value) (c .kind)
 
 -- the variables d lets out and further become the bound values, the innermost first
 unfoldable pub close : ℕ → List Cell → Expr → Expr
 close d ρ (lit n κ) = lit n κ
-close d ρ (var k) = choose (ltb k d) (λ _. var k) (λ _. literal (getD ρ (k - d) nought))
+close d ρ (var k) = choose (ltb k d) (λ _. var k) (λ _. cellLit (getD ρ (k - d) nought))
 close d ρ (malloc ω) = malloc ω
 close d ρ (bind a b) = bind (close d ρ a) (close (suc d) ρ b)
 close d ρ (one o e) = one o (close d ρ e)
@@ -37,7 +37,7 @@ close-scoped ρ (scoped-one {o} e) = ap (one o) (close-scoped ρ e)
 close-scoped ρ (scoped-two {o} a b) = ap₂ (two o) (close-scoped ρ a) (close-scoped ρ b)
 
 -- What a variable is.
-pub close-var : (ρ : List Cell) (k : ℕ) → close 0 ρ (var k) ≡ literal (getD ρ k nought)
+pub close-var : (ρ : List Cell) (k : ℕ) → close 0 ρ (var k) ≡ cellLit (getD ρ k nought)
 unfolding close
 close-var ρ k = let q : k - 0 ≡ k = omega arith in rw (le-ltb k 0 (omega arith), q)
 

@@ -14,7 +14,7 @@ use Rattle.image.specs.Shape.{height}
 use Rattle.tables.specs.Rows.{wholeRows, push, fetch, take, apply, join, hold, drop, stop, taskRow, taskRowAt}
 use Rattle.tables.specs.Parts.{PartRows}
 use Rattle.stepper.specs.Moves.{Standing, standing}
-use Rattle.stepper.proofs.Close.{literal, close}
+use Rattle.stepper.proofs.Close.{cellLit, close}
 use Rattle.stepper.proofs.Context.{Hole, in-one, in-bound, in-left, in-right, plugs, under}
 
 module _ (types rows : List ℕ) (room : ℕ) where
@@ -42,7 +42,7 @@ module _ (types rows : List ℕ) (room : ℕ) where
         → PartRows types rows m i p e q → length st + height e ≤ room → length ρ + height e ≤ room → Kont q st ρ m K
         → Sim (standing p st ρ) (plugs K (close 0 ρ e))
     return : {m : Mode} {q : ℕ} {st ρ : List Cell} {K : List Hole}
-        → (c : Cell) → length st < room → length ρ ≤ room → Kont q st ρ m K → Sim (standing q (c ∷ st) ρ) (plugs K (literal c))
+        → (c : Cell) → length st < room → length ρ ≤ room → Kont q st ρ m K → Sim (standing q (c ∷ st) ρ) (plugs K (cellLit c))
 
   -- the mode of a context is that of the code there
   pub kont-mode : {q : ℕ} {st ρ : List Cell} {m : Mode} {K : List Hole} → Kont q st ρ m K → under K ≡ m

@@ -24,19 +24,19 @@ use Rattle.stepper.proofs.Continuations.{Kont, k-end, k-one, k-left, k-
 use Rattle.stepper.proofs.Advances.{rowsOf}
 
 -- the work of a row with a datum fits, where so many values are on the stack and so many are bound
-pub data Fits (room : ℕ) (high lets datum : ℕ) : Work → Type 0 where
-  fits-push : {n : ℕ} {κ : Kind} → high < room → Fits room high lets datum (push n κ)
-  fits-fetch : {k : ℕ} → high < room → Fits room high lets datum (fetch k)
-  fits-take : {κ : Kind} → high < room → datum ≡ packed κ → Fits room high lets datum (take κ)
-  fits-apply : {o : One} → Fits room high lets datum (apply o)
-  fits-join : {o : Act} → Fits room high lets datum (join o)
-  fits-hold : lets < room → Fits room high lets datum hold
-  fits-drop : Fits room high lets datum drop
-  fits-stop : Fits room high lets datum stop
+pub data RowFits (room : ℕ) (high lets datum : ℕ) : Work → Type 0 where
+  fits-push : {n : ℕ} {κ : Kind} → high < room → RowFits room high lets datum (push n κ)
+  fits-fetch : {k : ℕ} → high < room → RowFits room high lets datum (fetch k)
+  fits-take : {κ : Kind} → high < room → datum ≡ packed κ → RowFits room high lets datum (take κ)
+  fits-apply : {o : One} → RowFits room high lets datum (apply o)
+  fits-join : {o : Act} → RowFits room high lets datum (join o)
+  fits-hold : lets < room → RowFits room high lets datum hold
+  fits-drop : RowFits room high lets datum drop
+  fits-stop : RowFits room high lets datum stop
 
 module _ (types rows : List ℕ) (room : ℕ) where
   part-fits : {m : Mode} {i p q : ℕ} {e : Expr} (st ρ : List Cell) → PartRows types rows m i p e q → length st + height e ≤ room
-      → Fits room (length st) (length ρ) (datumAt rows p) (taskRowAt types rows p .work)
+      → RowFits room (length st) (length ρ) (datumAt rows p) (taskRowAt types rows p .work)
   unfolding height
   part-fits st ρ (part-lit x) a = rw x (fits-push (omega arith))
   part-fits st ρ (part-var x) a = rw x (fits-fetch (omega arith))
@@ -46,7 +46,7 @@ module _ (types rows : List ℕ) (room : ℕ) where
   part-fits st ρ (part-two u v x) a = part-fits st ρ u (omega arith)
 
   pub sim-fits : {s : Standing} {e : Expr} → Sim types rows room s e
-      → Fits room (length (s .stack)) (length (s .bound)) (datumAt rows (s .row)) (taskRowAt types rows (s .row) .work)
+      → RowFits room (length (s .stack)) (length (s .bound)) (datumAt rows (s .row)) (taskRowAt types rows (s .row) .work)
   sim-fits (begin {st = st} {ρ = ρ} p a b k) = part-fits st ρ p a
   sim-fits (return c a b (k-end x)) = rw x fits-stop
   sim-fits (return c a b (k-one x k)) = rw x fits-apply

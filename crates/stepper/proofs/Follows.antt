@@ -44,7 +44,7 @@ use Rattle.stepper.specs.Stack.{pushed, fetched, allotted, applied, join
 use Rattle.stepper.specs.Turns.{rowTurn}
 use Rattle.stepper.proofs.Advances.{rowsOf}
 use Rattle.stepper.proofs.Listed.{TwoNumbers, Listed, listed-none, listed-more, listed-put, listed-at, listed-small}
-use Rattle.stepper.proofs.Fitting.{Fits, fits-push, fits-fetch, fits-take, fits-hold}
+use Rattle.stepper.proofs.Fitting.{RowFits, fits-push, fits-fetch, fits-take, fits-hold}
 use Rattle.stepper.proofs.GivesAs.{HeapNext, heap-stays, OnTerms, one-as, act-as}
 use Rattle.stepper.proofs.Zeroed.{HintHolds}
 use Rattle.stepper.proofs.Does.{Does, does-blocked, does-halts, does-gives, settled-does, one-does, malloc-does}
@@ -237,7 +237,7 @@ module _ {S : Setting} {T : StepTerms} {ws structs types : List ℕ} (L : OnTerm
 
   -- a row that does its task; only a row that stops may stand behind the last one
   pub task-follows : {v c : ℕ} (st : List Cell) (t : Task) (slot datum : ℕ) → TopIs stack v c st → ((workOf types t slot datum ≡ stop → ⊥) → p < wholeRows rows)
-      → Fits room (length st) (length ρ) datum (workOf types t slot datum)
+      → RowFits room (length st) (length ρ) datum (workOf types t slot datum)
       → Goal (taskTurn structs types T (lent H ws) stack bound (at v c st) t slot datum) (workMove S H (workOf types t slot datum) (insideMode b) p st ρ)
   unfolding taskTurn
   task-follows st task.Stop slot datum t i f = stop-follows t

@@ -143,7 +143,7 @@ module _ {S : Setting} {T : StepTerms} {ws structs types : List ℕ} (L : OnTerm
           (λ _. blocked))
       go (yes l) =
           let q : wordCode code (fieldTypeAt structs n f) ≡ packed (Word m (getD (fieldsOf S n) f 0)) =
-              field-code (L .setting) code n f l ∙ ap (λ (m : Mode). packed (Word m (getD (fieldsOf S n) f 0))) e in
+          field-code (L .setting) code n f l ∙ ap (λ (m : Mode). packed (Word m (getD (fieldsOf S n) f 0))) e in
           rw (L .setting .count n, lt-leb (length (fieldsOf S n)) f l, lt-ltb f (length (fieldsOf S n)) l, c)
           (reached (both (isChecked m) (eqb v 0)) _ _ q (field-small (L .setting) m n f))
       go (no l) =

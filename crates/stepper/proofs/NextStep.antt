@@ -16,14 +16,14 @@ use Rattle.calculus.specs.Steps.{step}
 use Rattle.tables.specs.Heads.{taskIn, insideIn, slotIn}
 use Rattle.tables.specs.Rows.{wholeRows, headAt, datumAt, taskRowAt}
 use Rattle.tables.proofs.Placed.{row-inside}
-use Rattle.stepper.specs.Moves.{Standing, standing, Move, quiet, past, standingMove, advance}
+use Rattle.stepper.specs.Moves.{Standing, standing, Move, quiet, pastMove, standingMove, advance}
 use Rattle.stepper.specs.declared.StepHint.{StepHint}
 use Rattle.stepper.specs.declared.StepState.{StepState}
 use Rattle.stepper.specs.declared.StepTerms.{StepTerms}
 use Rattle.stepper.specs.States.{Turned, stateOf}
 use Rattle.stepper.specs.Turns.{rowTurn, afterQuiet, advanced}
 use Rattle.stepper.proofs.Continuations.{Sim}
-use Rattle.stepper.proofs.Advances.{rowsOf, Meets, advances}
+use Rattle.stepper.proofs.Advances.{rowsOf, MeetsStep, advances}
 use Rattle.stepper.proofs.Fitting.{sim-fits, sim-quiet}
 use Rattle.stepper.proofs.GivesAs.{OnTerms}
 use Rattle.stepper.proofs.Zeroed.{HintHolds}
@@ -56,7 +56,7 @@ module _ {S : Setting} {T : StepTerms} {ws structs types : List ℕ} (L : OnTerm
       → ((p v c : ℕ) (st ρ : List Cell) (x : Bool) (stack bound : List ℕ) → m ≡ quiet (standing p st ρ) → length stack ≡ high → length bound ≡ lets
       → Stands rows stack bound steps p v c st ρ
       → Follows T ws rows H high lets steps first ht (go (stateOf p v c (length st) (length ρ) x steps first ht) (lent H ws) stack bound) (go′ (standing p st ρ)))
-      → Follows T ws rows H high lets steps first ht r m → Follows T ws rows H high lets steps first ht (afterQuiet r go) (past m go′)
+      → Follows T ws rows H high lets steps first ht r m → Follows T ws rows H high lets steps first ht (afterQuiet r go) (pastMove m go′)
   past-follows high lets go go′ next (f-ended {c = c} {stack = stack} {bound = bound} q) = f-ended {c = c} {stack = stack} {bound = bound} (rw q)
   past-follows high lets go go′ next (f-stays b {stack = stack} {bound = bound} q) = f-stays b {stack = stack} {bound = bound} (rw q)
   past-follows high lets go go′ next (f-halting {h = h} b {stack = stack} {bound = bound} q₀ q₁) =
@@ -85,7 +85,7 @@ module _ {S : Setting} {T : StepTerms} {ws structs types : List ℕ} (L : OnTerm
   pub record NextStep (r : Turned) (high lets : ℕ) (e : Expr) : Type 0 where
     pub move : Move
     pub follows : Follows T ws rows H high lets steps first ht r move
-    pub meets : Meets types rows room move (step S Checked H e)
+    pub meets : MeetsStep types rows room move (step S Checked H e)
 
   -- The law of `advance`: from a state that stands for e it makes the definition's next step.
   pub next-step : {p v c : ℕ} {st ρ : List Cell} {e : Expr} (stack bound : List ℕ) (x : Bool) → Lends T room H ht (length stack) (length bound)

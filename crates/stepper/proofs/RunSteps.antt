@@ -31,7 +31,7 @@ use Rattle.stepper.specs.Turns.{RunEnd, runEnd, afterStep, advanced, dri
 use Rattle.stepper.specs.Ready.{StepReady}
 use Rattle.stepper.specs.Entry.{RunAs, StepRan}
 use Rattle.stepper.proofs.Continuations.{Sim}
-use Rattle.stepper.proofs.Advances.{Meets, m-ended, m-stays, m-halting, m-makes, starts}
+use Rattle.stepper.proofs.Advances.{MeetsStep, m-ended, m-stays, m-halting, m-makes, starts}
 use Rattle.stepper.proofs.Listed.{listed-none}
 use Rattle.stepper.proofs.GivesAs.{OnTerms, HeapNext}
 use Rattle.stepper.proofs.Zeroed.{HintHolds}
@@ -95,7 +95,7 @@ module _ {S : Setting} {T : StepTerms} {ws structs types : List ℕ} (L : OnTerm
   module _ (H : Heap) (long : length H ≡ T .words) (steps first : ℕ) (ht : StepHint) (few : steps < 2 ^ 63) where
     -- no step is left
     at-end : {r : Turned} {m : Move} {t : Step} (high lets : ℕ) (go : StepState → (ws stack bound : List ℕ) → RunEnd) → T .limit ≤ steps
-        → Follows T ws rows H high lets steps first ht r m → Meets types rows room m t
+        → Follows T ws rows H high lets steps first ht r m → MeetsStep types rows room m t
         → Ends (T .words) ws (afterStep r go) steps first (atLimit H t)
     at-end high lets go l (f-ended q) m-ended =
         rw q (record { outcome-same = rw (add-zero, ← first-none steps first); heap-same = refl; heap-long = long })
@@ -108,7 +108,7 @@ module _ {S : Setting} {T : StepTerms} {ws structs types : List ℕ} (L : OnTerm
 
     -- n steps are left behind this one
     onwards : {r : Turned} {m : Move} {t : Step} (n high lets : ℕ) → T .limit - steps ≡ suc n → Runs n → 2 * room ≤ high → 2 * room ≤ lets
-        → Follows T ws rows H high lets steps first ht r m → Meets types rows room m t
+        → Follows T ws rows H high lets steps first ht r m → MeetsStep types rows room m t
         → Ends (T .words) ws (afterStep r (drives rows structs types T n)) steps first (onward H t (run S n))
     onwards n high lets e ih rs rb (f-ended q) m-ended =
         rw q (record { outcome-same = rw (add-zero, ← first-none steps first); heap-same = refl; heap-long = long })
@@ -120,8 +120,8 @@ module _ {S : Setting} {T : StepTerms} {ws structs types : List ℕ} (L : OnTerm
     onwards {r} n high lets e ih rs rb (f-makes b {x = x} {p = p} {v = v} {c = c} {st = st} {ρ = ρ} {H′ = H′} {ht′ = ht′} {stack′ = stack′} {bound′ = bound′} q₀ q₁ h k lh ll s) (m-makes {e = e′} sim) =
         let one : oneMore steps ≡ suc steps = omega arith in
         let q : r ≡ turnedTo (Steps (stateOf p v c (length st) (length ρ) x (suc steps) (firstBy steps first b) ht′)) (lent H′ ws) stack′ bound′ =
-            q₁ (omega arith)
-            ∙ ap (λ (n : ℕ). turnedTo (Steps (stateOf p v c (length st) (length ρ) x n (firstBy steps first b) ht′)) (lent H′ ws) stack′ bound′) one in
+        q₁ (omega arith)
+        ∙ ap (λ (n : ℕ). turnedTo (Steps (stateOf p v c (length st) (length ρ) x n (firstBy steps first b) ht′)) (lent H′ ws) stack′ bound′) one in
         rw q
         (step-first _ steps first b _ few
         (ih .from p v c st ρ e′ stack′ bound′ x H′ (suc steps) (firstBy steps first b) ht′

@@ -61,7 +61,7 @@ module _ {S : Setting} {T : StepTerms} {ws structs types : List ℕ} (L : OnTerm
       let c : Cell = cell 0 (wordKind S κ i) in
       let few = L .words-few in
       let rest = zeros-as κ k (suc a) (suc i) (update H a c) sm (omega arith) (omega arith) (omega arith) (omega arith)
-          (small-update H a c s (words-small (L .setting) κ i)) (length-update H a c ∙ w) in
+      (small-update H a c s (words-small (L .setting) κ i)) (length-update H a c ∙ w) in
       let ea : oneMore a ≡ suc a = omega arith in
       let ei : oneMore i ≡ suc i = omega arith in
       let es : stored (lent H ws) a c ≡ lent (update H a c) ws = stored-lent H ws a c (omega arith) (omega (arith, L .heap-room)) in

@@ -61,12 +61,12 @@ workMove S H stop m p (c ∷ st) ρ = ended c
 abbrev pub rowMove : Setting → Heap → TaskRow → ℕ → (st ρ : List Cell) → Move
 rowMove S H r p st ρ = workMove S H (r .work) (r .mode) p st ρ
 
-abbrev pub past : Move → (Standing → Move) → Move
-past (ended c) go = ended c
-past (stays m) go = stays m
-past (halting h m) go = halting h m
-past (makes s H m) go = makes s H m
-past (quiet s) go = go s
+abbrev pub pastMove : Move → (Standing → Move) → Move
+pastMove (ended c) go = ended c
+pastMove (stays m) go = stays m
+pastMove (halting h m) go = halting h m
+pastMove (makes s H m) go = makes s H m
+pastMove (quiet s) go = go s
 
 -- the rows by their numbers
 module _ (S : Setting) (T : ℕ → TaskRow) where
@@ -76,7 +76,7 @@ module _ (S : Setting) (T : ℕ → TaskRow) where
   -- up to and including the next step: rows without one go forward, so that there are no more of them than rows
   unfoldable pub advance : (fuel : ℕ) → Heap → Standing → Move
   advance zero H s = standingMove H s
-  advance (suc fuel) H s = past (standingMove H s) (advance fuel H)
+  advance (suc fuel) H s = pastMove (standingMove H s) (advance fuel H)
 
 abbrev pub moveAtLimit : Heap → Move → Result
 moveAtLimit H (ended c) = result (Value c) 0 0 H

@@ -65,7 +65,14 @@ pub fn allot(
         return stuck(s);
     }
     put_word(stack, height, s.value, s.code);
-    malloc(heap, structs, types, terms, sized(s, height + 1, s.lets), code)
+    malloc(
+        heap,
+        structs,
+        types,
+        terms,
+        sized(s, height + 1, s.lets),
+        code,
+    )
 }
 
 // A node with one part: what it gives takes the place of the value on top.
@@ -84,7 +91,11 @@ pub fn apply(
     if s.height == 0 {
         return stuck(s);
     }
-    settle(s, terms.limit, one(heap, structs, types, terms.words, s, task, slot, datum))
+    settle(
+        s,
+        terms.limit,
+        one(heap, structs, types, terms.words, s, task, slot, datum),
+    )
 }
 
 // A node with two parts: what it gives takes the place of both values.

@@ -64,7 +64,14 @@ pub fn one(
 }
 
 // What is done with two values: that of the first part is told, that of the second is on top.
-pub fn act(heap: &mut [u64], terms: StepTerms, s: StepState, o: Act, value: u64, code: u64) -> StepTurn
+pub fn act(
+    heap: &mut [u64],
+    terms: StepTerms,
+    s: StepState,
+    o: Act,
+    value: u64,
+    code: u64,
+) -> StepTurn
     ensures { λ r. ⌜ changed r (now (heap .exit)) ≡ settledOn (terms .limit) s (now (heap .entry)) (actGives (terms .words) (now (heap .entry)) s o value code) ⌝ }
 {
     match o {
