@@ -1,10 +1,10 @@
 -- What is around a part, where it is known by its fields.
-use Prim.Native.Nat.{ℕ, suc, _+_, _-_, _<_}
+use Prim.Native.Nat.{ℕ, suc, _-_, _<_}
 use mathlib.Core.Path.{_≡_}
 use mathlib.Core.Bool.{Bool, true}
 use native.Mathlib.Omega.{arith}
 use native.Mathlib.Numerals.{add-one}
-use Rattle.reader.specs.Cursors.{aroundNumber, depthIn, letsIn, blockIn, deeper, underLet, inBlock}
+use Rattle.reader.specs.Cursors.{aroundNumber, deeper, underLet, inBlock}
 use Rattle.reader.proofs.Cursors.{depth-around, lets-around, block-around}
 
 one-less : (n : ℕ) → suc n - 1 ≡ n

@@ -1,16 +1,17 @@
 -- Of numbers that cross the recursive call: what was put together comes apart again, if it fits, and no cursor is a refusal.
-use Prim.Native.Nat.{ℕ, zero, suc, _+_, _-_, _*_, _/_, _%_, _≤_, _<_}
+use Prim.Native.Nat.{ℕ, zero, suc, _+_, _*_, _/_, _%_, _≤_, _<_}
 use mathlib.Core.Path.{_≡_, refl}
 use mathlib.Core.Bool.{Bool, true, false}
 use native.Mathlib.Omega.{arith}
-use lib.Dec.{eqb, leb}
-use lib.ListN.{length, getD, List·getD-eq-default}
+use lib.Dec.{eqb}
+use lib.ListN.{List·getD-eq-default}
 use borrow.Author.Tests.{le-leb, lt-leb, leb-false}
 use Rattle.calculus.specs.Answers.{faultNumber}
 use Rattle.calculus.specs.declared.Fault.{Fault}
 use Rattle.calculus.specs.declared.Fault.the-variants.{Ends, Unfit, Format, Limit, Unknown, Repeat, Beyond, Behind, NoRule, IllTyped}
 use Rattle.tables.specs.Heads.{insideBit}
-use Rattle.reader.specs.Cursors.{cursorNumber, offsetIn, nodesIn, rowsIn, refusalNumber, isRefusal, numbered, faultOf, faultIn, placeIn, aroundNumber, depthIn, letsIn, blockIn}
+use Rattle.reader.specs.Cursors.{cursorNumber, offsetIn, nodesIn, rowsIn, aroundNumber, depthIn, letsIn, blockIn}
+use Rattle.reader.specs.Cursors.{refusalNumber, isRefusal, faultList, faultOf, faultIn, placeIn}
 
 -- ---- fields are within their bits
 pub nodes-below : (cursor : ℕ) → nodesIn cursor < 4096
@@ -32,6 +33,10 @@ depth-below around = omega arith
 pub place-below : (answer : ℕ) → placeIn answer < 274877906944
 unfolding placeIn
 place-below answer = omega arith
+
+pub offset-times : (cursor : ℕ) → 33554432 * offsetIn cursor ≤ cursor
+unfolding offsetIn
+offset-times cursor = omega arith
 
 pub offset-below : (cursor : ℕ) → cursor < 9223372036854775808 → offsetIn cursor < 274877906944
 unfolding offsetIn
@@ -83,7 +88,7 @@ none-to number (suc k) (o, n) p = let l : k < number = none-to number k o p in o
 pub no-fault : (number : ℕ) → NoneTo number 9 → faultOf number ≡ IllTyped
 unfolding faultOf
 no-fault zero o = refl
-no-fault (suc n) o = List·getD-eq-default numbered IllTyped {n = suc n} (none-to (suc n) 9 o (omega arith))
+no-fault (suc n) o = List·getD-eq-default faultList IllTyped {n = suc n} (none-to (suc n) 9 o (omega arith))
 
 fault-back : (f : Fault) → faultOf (faultNumber f) ≡ f
 unfolding faultOf

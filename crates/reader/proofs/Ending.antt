@@ -2,7 +2,6 @@
 use Prim.Native.Nat.{ℕ, _^_, _≤_, _<_}
 use mathlib.Core.List.{List}
 use lib.ListN.{length}
-use Rattle.calculus.specs.Expr.{Target}
 use Rattle.calculus.specs.declared.Fault.{Fault}
 use Rattle.calculus.specs.declared.Fault.the-variants as fault
 use Rattle.image.specs.Parsing.{Parsed, got, refused, number, below}

@@ -12,7 +12,7 @@ use Rattle.tables.specs.Rows.{wholeRows}
 use Rattle.image.specs.Answers.{refusal}
 use Rattle.image.specs.Filled.{filled}
 use Rattle.reader.specs.Cursors.{cursorNumber, aroundNumber, depthIn}
-use Rattle.reader.specs.Reads.{nodeRows, ended, mostRows, expressionRows}
+use Rattle.reader.specs.Reads.{nodeRows, exprEnded, mostRows, expressionRows}
 use Rattle.reader.specs.declared.ExprRead.{ExprRead}
 use Rattle.reader.specs.declared.ExprRead.the-variants.{Refused, Short}
 use Rattle.reader.proofs.Cursors.{depth-around}
@@ -39,7 +39,7 @@ module _ (image : List ℕ) (known structs at : ℕ) (t : List ℕ) where
       pub read-whole : {around start end : ℕ} {t₁ : List ℕ} {r : ExprRead} {t₂ : List ℕ} → mostRows (length image - at) ≤ wholeRows t
           → around ≡ aroundNumber 64 0 false → start ≡ cursorNumber 0 0 0
           → filled end t₁ ≡ nodeRows (take (length image - at) (drop at image)) known structs (depthIn around) around start t
-          → filled r t₂ ≡ ended at end t₁ → filled r t₂ ≡ expressionRows image known structs at t
+          → filled r t₂ ≡ exprEnded at end t₁ → filled r t₂ ≡ expressionRows image known structs at t
       unfolding expressionRows
       read-whole l a s e f =
           rw (

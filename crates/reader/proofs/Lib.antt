@@ -3,6 +3,8 @@ pub mod Cursors
 pub mod OneByte
 pub mod Others
 pub mod Steps
+pub mod Behind
+pub mod ShortLeaves
 pub mod Puts
 pub mod Into
 pub mod Around

@@ -13,7 +13,7 @@ use Rattle.tables.specs.Heads.{headNumber}
 use Rattle.tables.specs.Rows.{putRow}
 use Rattle.tables.specs.declared.Task.{Task}
 use Rattle.image.specs.Filled.{filled}
-use Rattle.reader.specs.Cursors.{cursorNumber, nodesIn, rowsIn, behindHead, aroundNumber}
+use Rattle.reader.specs.Cursors.{cursorNumber, behindHead, aroundNumber}
 use Rattle.reader.specs.Reads.{rowPut}
 use Rattle.reader.specs.Told.{BehindKept}
 use Rattle.reader.proofs.Cursors.{nodes-cursor, rows-cursor, row-more, block-around}

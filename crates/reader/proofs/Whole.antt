@@ -1,15 +1,14 @@
 -- The whole expression: what is answered, and what the rows hold then, is what the definition reads.
-use Prim.Native.Nat.{ℕ, suc, _+_, _-_, _*_, _≤_, _<_}
+use Prim.Native.Nat.{ℕ, _+_, _-_, _≤_, _<_}
 use mathlib.Core.Path.{_≡_, refl, sym, _∙_, ap, subst}
-use mathlib.Core.Bool.{Bool, true, false}
+use mathlib.Core.Bool.{false}
 use mathlib.Core.List.{List, [], _∷_, map}
 use native.Mathlib.Omega.{arith}
 use native.Mathlib.Nat.{zero-add}
 use native.Mathlib.Numerals.{add-one}
 use lib.Dec.{ltb}
-use lib.ListN.{length, getD, take, drop, length-drop}
-use lib.Seq.{take-all}
-use borrow.Author.Tests.{lt-ltb, le-ltb, ltb-true, ltb-false}
+use lib.ListN.{length, getD, drop, length-drop}
+use borrow.Author.Tests.{le-ltb, ltb-true, ltb-false}
 use Rattle.choice.specs.Choice.{choose-told}
 use Rattle.cells.specs.Code.{packed, Small}
 use Rattle.cells.specs.declared.Mode.the-variants.{Checked}
@@ -25,19 +24,17 @@ use Rattle.tables.proofs.Laid.{rows-few, kept-put, part-kept}
 use Rattle.tables.proofs.Placed.{length-row}
 use Rattle.tables.proofs.Written.{row-written}
 use Rattle.image.specs.Content.{Tables}
-use Rattle.image.specs.Parsing.{Parsed, got, refused, number, carried}
+use Rattle.image.specs.Parsing.{Parsed, refused, number, carried}
 use Rattle.image.specs.Nodes.{readHead, readNode}
 use Rattle.image.specs.Image.{readExpr}
-use Rattle.image.specs.Answers.{refusal}
 use Rattle.image.specs.Filled.{Filled, filled, thenFill}
 use Rattle.reader.specs.Cursors.{cursorNumber, aroundNumber}
-use Rattle.reader.specs.Reads.{nodeRows, ended, mostRows, expressionRows}
+use Rattle.reader.specs.Reads.{nodeRows, exprEnded, mostRows, expressionRows}
 use Rattle.reader.specs.Told.{BehindKept, TellsRows, tells-expr, tells-refused, tells-short, RowsRead}
 use Rattle.reader.specs.declared.ExprRead.{ExprRead}
-use Rattle.reader.specs.declared.ExprRead.the-variants.{Refused, Short}
 use Rattle.reader.proofs.Cursors.{no-refusal, offset-cursor, nodes-cursor, rows-cursor, is-refusal, fault-refusal, place-refusal}
 use Rattle.reader.proofs.Puts.{put-behind, behind-then}
-use Rattle.reader.proofs.Into.{Stands, Roomy, Into, into, stopped}
+use Rattle.reader.proofs.Into.{RowRoom, IntoRows, into, stopped}
 use Rattle.reader.proofs.Noded.{node-in}
 
 -- an answer with the rows then
@@ -54,8 +51,8 @@ held {types} {rows} {q = q} x there =
       stops = ap (λ (r : TaskRow). r .work) (row-written types rows q task.Stop false 0 0 0 0 there (omega arith) (omega arith) (omega arith));
     }
 
-ended-tells : {tail types t : List ℕ} {F : Filled ℕ} {r : Parsed Expr} (bytes at : ℕ) → length tail < 274877906944 → Roomy tail t
-    → Into tail types t false 0 0 0 F r → Says types bytes t (carried at r) (ended at (F .result) (F .table))
+ended-tells : {tail types t : List ℕ} {F : Filled ℕ} {r : Parsed Expr} (bytes at : ℕ) → length tail < 274877906944 → RowRoom tail t
+    → IntoRows tail types t false 0 0 0 F r → Says types bytes t (carried at r) (exprEnded at (F .result) (F .table))
 ended-tells {types = types} {t} bytes at short room (into {e} {next} {q} {t′} few long end x front back) =
     let f = rows-few x in
     let space = room .space (nodes e) (omega arith) (omega arith) in
@@ -68,7 +65,8 @@ ended-tells {types = types} {t} bytes at short room (into {e} {next} {q} {t′} 
       zero-add,
     )
     (tells-expr {next = at + next} (held x there) (length-row t′ q (headNumber task.Stop false 0 0 0) 0 ∙ front .long)
-    (subst (λ (n : ℕ). BehindKept n t (putRow t′ q (headNumber task.Stop false 0 0 0) 0)) (sym (add-one q)) (behind-then back (omega arith) (put-behind t′ q (headNumber task.Stop false 0 0 0) 0))))
+    (subst (λ (n : ℕ). BehindKept n t (putRow t′ q (headNumber task.Stop false 0 0 0) 0)) (sym (add-one q))
+    (behind-then back (omega arith) (put-behind t′ q (headNumber task.Stop false 0 0 0) 0))))
 ended-tells bytes at short room (stopped {f} {place} w e) =
     rw (is-refusal f place, fault-refusal f place, place-refusal f place (omega arith)) (tells-refused e)
 
@@ -86,9 +84,9 @@ unfolding readExpr readNode readHead number groups
 nothing-there image tables at h = let e : at + 0 ≡ at = omega arith in rw (nothing-left image at h, e)
 
 -- rows enough for the bytes are rows enough for the nodes
-roomy : {tail t : List ℕ} (bytes : ℕ) → length tail ≡ bytes → mostRows bytes ≤ wholeRows t → Roomy tail t
+roomy : {tail t : List ℕ} (bytes : ℕ) → length tail ≡ bytes → mostRows bytes ≤ wholeRows t → RowRoom tail t
 roomy {tail} {t} bytes e =
-    choose-told (λ (n : ℕ). n ≤ wholeRows t → Roomy tail t) (ltb bytes 2048) _ _
+    choose-told (λ (n : ℕ). n ≤ wholeRows t → RowRoom tail t) (ltb bytes 2048) _ _
     (λ _ l. record { space = λ n a b. omega arith })
     (λ _ l. record { space = λ n a b. omega arith })
 
@@ -97,7 +95,8 @@ module _ (image : List ℕ) (tables : Tables) (at : ℕ) (t : List ℕ) (not-lon
   -- the node at the front of the part, and then the row that stops
   read-tells : mostRows (length image - at) ≤ wholeRows t
       → Says (map packed (tables .types)) (length image - at) t (readExpr image tables at)
-      (thenFill (nodeRows (drop at image) (length (tables .types)) (length (tables .structs)) 64 (aroundNumber 64 0 false) (cursorNumber 0 0 0) t) (ended at))
+      (thenFill (nodeRows (drop at image) (length (tables .types)) (length (tables .structs)) 64 (aroundNumber 64 0 false) (cursorNumber 0 0 0) t)
+      (exprEnded at))
   unfolding readExpr
   read-tells l =
       let long = length-drop at image in

@@ -36,11 +36,11 @@ unfoldable pub isRefusal : (answer : ℕ) → Bool
 isRefusal answer = leb 9223372036854775808 answer
 
 -- the faults at their numbers; 0, and a number that none has, is the last one's
-abbrev pub numbered : List Fault
-numbered = IllTyped ∷ Ends ∷ Unfit ∷ Format ∷ Limit ∷ Unknown ∷ Repeat ∷ Beyond ∷ Behind ∷ NoRule ∷ []
+abbrev pub faultList : List Fault
+faultList = IllTyped ∷ Ends ∷ Unfit ∷ Format ∷ Limit ∷ Unknown ∷ Repeat ∷ Beyond ∷ Behind ∷ NoRule ∷ []
 
 unfoldable pub faultOf : (number : ℕ) → Fault
-faultOf number = getD numbered number IllTyped
+faultOf number = getD faultList number IllTyped
 
 unfoldable pub faultIn : (answer : ℕ) → Fault
 faultIn answer = faultOf (answer / 274877906944 % 16)

@@ -1,10 +1,10 @@
 -- The expression as it goes into lent rows: the answer, and the numbers then. A node's row stands behind its parts' rows. Where something is
 -- refused, the rows written up to there stay.
 use Prim.Native.Nat.{ℕ, zero, suc, _+_, _-_, _*_}
-use mathlib.Core.Bool.{Bool, false}
+use mathlib.Core.Bool.{false}
 use mathlib.Core.List.{List}
 use lib.Dec.{eqb, leb, ltb}
-use lib.ListN.{length, drop}
+use lib.ListN.{length, getD, drop}
 use Rattle.choice.specs.Choice.{choose}
 use Rattle.calculus.specs.Operations.{operationOf}
 use Rattle.calculus.specs.declared.Act.{Act}
@@ -19,7 +19,8 @@ use Rattle.image.specs.Parsing.{Parsed, got, refused, thenRead, number, below}
 use Rattle.image.specs.Tables.{readTarget}
 use Rattle.image.specs.Answers.{refusal, mapped, pointerCode}
 use Rattle.image.specs.Filled.{Filled, filled, thenFill}
-use Rattle.reader.specs.Cursors.{cursorNumber, offsetIn, nodesIn, rowsIn, behindHead, refusalNumber, isRefusal, faultIn, placeIn, aroundNumber, depthIn, letsIn, blockIn, deeper, underLet, inBlock}
+use Rattle.reader.specs.Cursors.{cursorNumber, offsetIn, nodesIn, rowsIn, behindHead, refusalNumber, isRefusal, faultIn, placeIn}
+use Rattle.reader.specs.Cursors.{aroundNumber, letsIn, blockIn, deeper, underLet, inBlock}
 use Rattle.reader.specs.declared.Operand.{Operand}
 use Rattle.reader.specs.declared.Operand.the-variants as operand
 use Rattle.reader.specs.declared.ExprRead.{ExprRead}
@@ -142,20 +143,18 @@ module _ (image : List ℕ) (known structs : ℕ) where
       (λ _. filled (refusalNumber fault.Limit (offsetIn cursor)) t)
       (λ _. operationRows (nodeRows deep) around cursor (operationOf code) next t))
 
--- a literal or a variable, whose code is one byte
-module _ (image : List ℕ) (known : ℕ) where
-  abbrev pub leafRows : (code around cursor : ℕ) → List ℕ → Filled ℕ
-  leafRows code around cursor t =
-      choose (eqb (depthIn around) 0) (λ _. filled (refusalNumber fault.Limit (offsetIn cursor)) t) λ _.
-      choose (leb 2048 (nodesIn cursor)) (λ _. filled (refusalNumber fault.Limit (offsetIn cursor)) t) λ _.
-      choose (eqb code 0)
-      (λ _. literalRows image known around cursor (offsetIn cursor + 1) t)
-      (λ _. variableRows image around cursor (offsetIn cursor + 1) t)
+-- a literal or a variable by its bytes: code 0, value and word type; or how many lets out
+abbrev pub shortRows : (image : List ℕ) (around cursor : ℕ) → List ℕ → Filled ℕ
+shortRows image around cursor t =
+    let at : ℕ = offsetIn cursor in
+    choose (eqb (getD image at 0) 0)
+    (λ _. rowPut around cursor (behindHead cursor (at + 3)) task.Literal (getD image (at + 2) 0) 0 (getD image (at + 1) 0) t)
+    (λ _. rowPut around cursor (behindHead cursor (at + 2)) task.Variable (getD image (at + 1) 0) 0 0 t)
 
 -- ---- the whole expression
 -- behind it: the row that stops; places are told from `at` on
-abbrev pub ended : (at end : ℕ) → List ℕ → Filled ExprRead
-ended at end t =
+abbrev pub exprEnded : (at end : ℕ) → List ℕ → Filled ExprRead
+exprEnded at end t =
     choose (isRefusal end)
     (λ _. filled (answer.Refused (refusal (faultIn end) (at + placeIn end))) t)
     (λ _. filled (answer.Read (at + offsetIn end) (nodesIn end) (rowsIn end + 1)) (putRow t (rowsIn end) (headNumber task.Stop false 0 0 0) 0))
@@ -171,4 +170,4 @@ expressionRows image known structs at t =
     choose (ltb 16384 (length image)) (λ _. filled (answer.Refused (refusal fault.Limit 0)) t) λ _.
     choose (ltb (length image) at) (λ _. filled (answer.Refused (refusal fault.Ends at)) t) λ _.
     choose (ltb (wholeRows t) (mostRows (length image - at))) (λ _. filled answer.Short t) λ _.
-    thenFill (nodeRows (drop at image) known structs 64 (aroundNumber 64 0 false) (cursorNumber 0 0 0) t) (ended at)
+    thenFill (nodeRows (drop at image) known structs 64 (aroundNumber 64 0 false) (cursorNumber 0 0 0) t) (exprEnded at)

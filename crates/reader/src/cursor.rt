@@ -4,7 +4,8 @@ ghost use Prim.Native.Nat.{_<_};
 ghost use mathlib.Core.Path.{_≡_};
 ghost use Rattle.calculus.specs.Answers.{faultNumber};
 ghost use Rattle.tables.specs.Heads.{insideBit};
-ghost use Rattle.reader.specs.Cursors.{cursorNumber, offsetIn, nodesIn, rowsIn, refusalNumber, isRefusal, faultOf, faultIn, placeIn, aroundNumber, depthIn, letsIn, blockIn, behindHead, deeper, underLet, inBlock};
+ghost use Rattle.reader.specs.Cursors.{cursorNumber, offsetIn, nodesIn, rowsIn, behindHead, refusalNumber, isRefusal, faultOf, faultIn, placeIn};
+ghost use Rattle.reader.specs.Cursors.{aroundNumber, depthIn, letsIn, blockIn, deeper, underLet, inBlock};
 use calculus::Fault;
 
 // Where reading stands: at this offset, behind so many nodes and rows.

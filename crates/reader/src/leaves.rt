@@ -1,26 +1,23 @@
 // Nodes without parts, and what stands before the part of a node with one: numbers behind a node's code, into its row.
-ghost use Prim.Native.Nat.{_+_, _<_};
+ghost use Prim.Native.Nat.{_<_};
 ghost use mathlib.Core.Path.{_≡_};
 ghost use mathlib.Core.Bool.{false};
-ghost use lib.ListN.{length};
 ghost use Rattle.image.specs.Filled.{filled};
-ghost use Rattle.reader.specs.Cursors.{isRefusal, refusalNumber, offsetIn, depthIn};
-ghost use Rattle.reader.specs.Reads.{rowPut, rowClosed, literalRows, variableRows, mallocRows, leafRows, operandOf, asOperand};
+ghost use Rattle.reader.specs.Cursors.{isRefusal, refusalNumber, depthIn};
+ghost use Rattle.reader.specs.Reads.{rowPut, rowClosed, literalRows, variableRows, mallocRows, operandOf, asOperand};
 ghost use Rattle.reader.specs.declared.Operand.the-variants.{Part};
 use crate::Operand;
+use crate::bytes::below_at;
+use crate::bytes::number_at;
 use crate::cursor::behind_head;
 use crate::cursor::deeper;
-use crate::cursor::depth_of;
 use crate::cursor::in_block;
 use crate::cursor::is_in_block;
 use crate::cursor::is_refusal;
 use crate::cursor::lets_of;
 use crate::cursor::nodes_of;
-use crate::cursor::offset_of;
 use crate::cursor::refusal_number;
 use crate::cursor::rows_of;
-use crate::short::below_at;
-use crate::short::number_at;
 use calculus::Fault;
 use calculus::Operation;
 use calculus::Refusal;
@@ -128,31 +125,6 @@ pub fn read_malloc(
         }
         Limited::Refused(refusal) => refused(refusal),
     }
-}
-
-// A literal or a variable at the cursor, whose code is one byte, 0 or 1.
-pub fn read_leaf(
-    rows: &mut [u64],
-    image: &[u8],
-    known: u64,
-    around: u64,
-    cursor: u64,
-    code: u64,
-) -> u64
-    requires { ⌜ offsetIn cursor < length (now image) ⌝ }
-    ensures { λ r. ⌜ filled r (now (rows .exit)) ≡ leafRows (now (image .entry)) known code around cursor (now (rows .entry)) ⌝ }
-{
-    let at = offset_of(cursor);
-    if depth_of(around) == 0 {
-        return refusal_number(Fault::Limit, at);
-    }
-    if 2048 <= nodes_of(cursor) {
-        return refusal_number(Fault::Limit, at);
-    }
-    if code == 0 {
-        return read_literal(rows, image, known, around, cursor, at + 1);
-    }
-    read_variable(rows, image, around, cursor, at + 1)
 }
 
 // What stands at `at`, between the code of a node with one part, which is at `first`, and its part. No other node has the code.

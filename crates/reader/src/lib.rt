@@ -3,6 +3,7 @@
 use calculus::Refusal;
 use tables::Task;
 
+mod bytes;
 mod cursor;
 mod leaves;
 mod nodes;

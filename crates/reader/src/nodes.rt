@@ -5,6 +5,7 @@ ghost use Rattle.image.specs.Filled.{filled};
 ghost use Rattle.reader.specs.Cursors.{depthIn};
 ghost use Rattle.reader.specs.Reads.{oneRows, actRows, letRows, nodeRows};
 use crate::Operand;
+use crate::bytes::number_at;
 use crate::cursor::behind_head;
 use crate::cursor::deeper;
 use crate::cursor::depth_of;
@@ -15,15 +16,14 @@ use crate::cursor::refusal_number;
 use crate::cursor::rows_of;
 use crate::cursor::under_let;
 use crate::leaves::close_row;
-use crate::leaves::read_leaf;
 use crate::leaves::read_literal;
 use crate::leaves::read_malloc;
 use crate::leaves::read_operand;
 use crate::leaves::read_variable;
 use crate::leaves::refused;
 use crate::leaves::write_row;
-use crate::short::number_at;
-use crate::short::wide;
+use crate::short::is_short;
+use crate::short::short_leaf;
 use calculus::Act;
 use calculus::Fault;
 use calculus::Operation;
@@ -70,7 +70,7 @@ pub fn read_node(
     }
 }
 
-// A part of a node, read as a node is. Most parts are leaves whose code is one byte, and those need no call of the above.
+// A part of a node, read as a node is; a short leaf needs no call of the above.
 fn read_part(
     rows: &mut [u64],
     image: &[u8],
@@ -81,12 +81,8 @@ fn read_part(
 ) -> u64
     ensures { λ r. ⌜ filled r (now (rows .exit)) ≡ nodeRows (now (image .entry)) known structs (depthIn around) around cursor (now (rows .entry)) ⌝ }
 {
-    let at = offset_of(cursor);
-    if at < image.len() {
-        let code = wide(image[at]);
-        if code < 2 {
-            return read_leaf(rows, image, known, around, cursor, code);
-        }
+    if is_short(image, known, around, cursor) {
+        return short_leaf(rows, image, around, cursor);
     }
     read_node(rows, image, known, structs, around, cursor)
 }
@@ -103,7 +99,8 @@ fn read_one(
     operation: Operation,
 ) -> u64
     requires { ⌜ 0 < depthIn around ⌝ }
-    ensures { λ r. ⌜ filled r (now (rows .exit)) ≡ oneRows (now (image .entry)) known (nodeRows (now (image .entry)) known structs (depthIn around - 1)) around cursor operation at (now (rows .entry)) ⌝ }
+    ensures { λ r. ⌜ filled r (now (rows .exit))
+        ≡ oneRows (now (image .entry)) known (nodeRows (now (image .entry)) known structs (depthIn around - 1)) around cursor operation at (now (rows .entry)) ⌝ }
 {
     match read_operand(image, known, around, offset_of(cursor), operation, at) {
         Operand::Part {
@@ -133,7 +130,8 @@ fn read_act(
     act: Act,
 ) -> u64
     requires { ⌜ 0 < depthIn around ⌝ }
-    ensures { λ r. ⌜ filled r (now (rows .exit)) ≡ actRows (nodeRows (now (image .entry)) known structs (depthIn around - 1)) around cursor act at (now (rows .entry)) ⌝ }
+    ensures { λ r. ⌜ filled r (now (rows .exit))
+        ≡ actRows (nodeRows (now (image .entry)) known structs (depthIn around - 1)) around cursor act at (now (rows .entry)) ⌝ }
 {
     let within = deeper(around);
     let start = behind_head(cursor, at);
@@ -166,7 +164,8 @@ fn read_let(
     at: usize,
 ) -> u64
     requires { ⌜ 0 < depthIn around ⌝ }
-    ensures { λ r. ⌜ filled r (now (rows .exit)) ≡ letRows (nodeRows (now (image .entry)) known structs (depthIn around - 1)) around cursor at (now (rows .entry)) ⌝ }
+    ensures { λ r. ⌜ filled r (now (rows .exit))
+        ≡ letRows (nodeRows (now (image .entry)) known structs (depthIn around - 1)) around cursor at (now (rows .entry)) ⌝ }
 {
     let start = behind_head(cursor, at);
     let bound = read_part(rows, image, known, structs, deeper(around), start);

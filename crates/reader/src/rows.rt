@@ -2,7 +2,7 @@
 ghost use Prim.Native.Nat.{_^_, _<_};
 ghost use mathlib.Core.Path.{_≡_};
 ghost use Rattle.image.specs.Filled.{filled};
-ghost use Rattle.reader.specs.Reads.{ended, mostRows};
+ghost use Rattle.reader.specs.Reads.{exprEnded, mostRows};
 ghost use Rattle.reader.specs.Told.{RowsRead};
 use crate::ExprRead;
 use crate::cursor::around_number;
@@ -70,7 +70,7 @@ fn most_rows(bytes: usize) -> usize
 // Behind the expression, whose places are told from `at` on: the row that stops.
 fn end_rows(rows: &mut [u64], at: usize, end: u64) -> ExprRead
     requires { ⌜ at < 2 ^ 32 ⌝ }
-    ensures { λ r. ⌜ filled r (now (rows .exit)) ≡ ended at end (now (rows .entry)) ⌝ }
+    ensures { λ r. ⌜ filled r (now (rows .exit)) ≡ exprEnded at end (now (rows .entry)) ⌝ }
 {
     if is_refusal(end) {
         return ExprRead::Refused(Refusal {

@@ -25,7 +25,9 @@ around-number-requires : tie.Need-around-number-requires
 around-number-requires c κs = search needs
 
 returns : tie.Need-returns
-returns c = c .around-number .ensures ∙ rw (c .before .before .before .depth-of .ensures, c .before .before .lets-of .ensures, c .before .is-in-block .ensures)
+returns c =
+    c .around-number .ensures ∙ rw
+    (c .before .before .before .depth-of .ensures, c .before .before .lets-of .ensures, c .before .is-in-block .ensures)
 
 pub under-let-spec : {M : Type 1} → statement M
 under-let-spec =

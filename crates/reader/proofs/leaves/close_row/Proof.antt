@@ -17,7 +17,9 @@ same-length : tie.Need-same-length
 same-length c = search needs
 
 returns-2 : tie.Need-returns-2
-returns-2 c = rw (← c .before .before .before .before .before .is-refusal .ensures, c .before .before .before .before .if1 .left) (c .before .before .write-row .ensures)
+returns-2 c =
+    rw (← c .before .before .before .before .before .is-refusal .ensures, c .before .before .before .before .if1 .left)
+    (c .before .before .write-row .ensures)
 
 pub close-row-spec : {M : Type 1} → statement M
 close-row-spec =

@@ -42,15 +42,32 @@ same-length c = search needs
 
 returns : tie.Need-returns
 unfolding literalRows
-returns c = let s = c .before .before .before .before .before .before .before in rw (was-got (number _ _) (s .before .before .before .before .before .number-at .ensures) (s .before .before .before .value .given .1), was-got (below _ _ _ _) (s .before .below-at .ensures) (c .before .before .before .before .before .before .number .given .1), ← c .before .before .before .before .behind-head .ensures) (c .before .before .write-row .ensures)
+returns c =
+    let s = c .before .before .before .before .before .before .before in
+    rw (
+      was-got (number _ _) (s .before .before .before .before .before .number-at .ensures) (s .before .before .before .value .given .1),
+      was-got
+          (below _ _ _ _) (s .before .below-at .ensures) (c .before .before .before .before .before .before .number .given .1),
+      ←
+          c .before .before .before .before .behind-head .ensures,
+    ) (c .before .before .write-row .ensures)
 
 returns-2 : tie.Need-returns-2
 unfolding literalRows
-returns-2 c = let s = c .before .before .before .before .before .before .before in rw (was-got (number _ _) (s .before .number-at .ensures) (c .before .before .before .before .before .before .value .given .1), was-refused (below _ _ _ _) (c .before .before .before .before .below-at .ensures) (c .before .before .refusal .given .1), c .refused .ensures)
+returns-2 c =
+    let s = c .before .before .before .before .before .before .before in
+    rw (
+      was-got (number _ _) (s .before .number-at .ensures) (c .before .before .before .before .before .before .value .given .1),
+      was-refused
+          (below _ _ _ _) (c .before .before .before .before .below-at .ensures) (c .before .before .refusal .given .1),
+      c .refused .ensures,
+    )
 
 returns-3 : tie.Need-returns-3
 unfolding literalRows
-returns-3 c = rw (was-refused (number _ _) (c .before .before .before .before .number-at .ensures) (c .before .before .refusal2 .given .1), c .refused2 .ensures)
+returns-3 c =
+    rw
+    (was-refused (number _ _) (c .before .before .before .before .number-at .ensures) (c .before .before .refusal2 .given .1), c .refused2 .ensures)
 
 pub read-literal-spec : {M : Type 1} → statement M
 read-literal-spec =

@@ -30,11 +30,19 @@ same-length c = search needs
 
 returns : tie.Need-returns
 unfolding mallocRows
-returns c = let s = c .before .before .before .before .before .before .before in rw (was-got (mapped _ _) (s .before .read-target .ensures) (c .before .before .before .before .before .before .value .given .1), ← c .before .before .before .before .behind-head .ensures) (c .before .before .write-row .ensures)
+returns c =
+    let s = c .before .before .before .before .before .before .before in
+    rw (
+      was-got (mapped _ _) (s .before .read-target .ensures) (c .before .before .before .before .before .before .value .given .1),
+      ←
+          c .before .before .before .before .behind-head .ensures,
+    ) (c .before .before .write-row .ensures)
 
 returns-2 : tie.Need-returns-2
 unfolding mallocRows
-returns-2 c = rw (was-refused (mapped _ _) (c .before .before .before .before .read-target .ensures) (c .before .before .refusal .given .1), c .refused .ensures)
+returns-2 c =
+    rw
+    (was-refused (mapped _ _) (c .before .before .before .before .read-target .ensures) (c .before .before .refusal .given .1), c .refused .ensures)
 
 pub read-malloc-spec : {M : Type 1} → statement M
 read-malloc-spec =

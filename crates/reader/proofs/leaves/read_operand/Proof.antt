@@ -1,5 +1,4 @@
--- `reader::leaves::read_operand` answers what `operandOf` reads: each arm of the match opens it by the operation, and the last one has those that are not of one part. Assumes nothing.
-use mathlib.Core.Path.{sym}
+-- `reader::leaves::read_operand` answers what `operandOf` reads: each arm opens it by the operation, the last one has the others. Assumes nothing.
 use Rattle.image.specs.Parsing.{number, below}
 use Rattle.image.proofs.Answered.{was-got, was-refused}
 use Rattle.reader.specs.Reads.{operandOf}
@@ -62,11 +61,22 @@ returns c = rw (c .before .before .enum-told .given .1, c .plain-part .ensures, 
 
 returns-2 : tie.Need-returns-2
 unfolding operandOf
-returns-2 c = rw (c .before .before .before .before .before .enum-told2 .given .1, was-got (below _ _ _ _) (c .before .before .before .before .below-at .ensures) (c .before .before .value .given .1), c .deeper .ensures)
+returns-2 c =
+    rw (
+      c .before .before .before .before .before .enum-told2 .given .1,
+      was-got (below _ _ _ _) (c .before .before .before .before .below-at .ensures)
+          (c .before .before .value .given .1),
+      c .deeper .ensures,
+    )
 
 returns-3 : tie.Need-returns-3
 unfolding operandOf
-returns-3 c = rw (c .before .before .before .before .enum-told2 .given .1, was-refused (below _ _ _ _) (c .before .before .before .below-at .ensures) (c .before .refusal .given .1))
+returns-3 c =
+    rw (
+      c .before .before .before .before .enum-told2 .given .1,
+      was-refused (below _ _ _ _) (c .before .before .before .below-at .ensures)
+          (c .before .refusal .given .1),
+    )
 
 returns-4 : tie.Need-returns-4
 unfolding operandOf
@@ -74,14 +84,27 @@ returns-4 c = rw (c .before .before .enum-told3 .given .1, c .plain-part2 .ensur
 
 returns-5 : tie.Need-returns-5
 unfolding operandOf
-returns-5 c = rw (c .before .before .before .before .before .enum-told4 .given .1, was-got (number _ _) (c .before .before .before .before .number-at .ensures) (c .before .before .value2 .given .1), c .deeper3 .ensures)
+returns-5 c =
+    rw (
+      c .before .before .before .before .before .enum-told4 .given .1,
+      was-got (number _ _) (c .before .before .before .before .number-at .ensures)
+          (c .before .before .value2 .given .1),
+      c .deeper3 .ensures,
+    )
 
 returns-6 : tie.Need-returns-6
 unfolding operandOf
-returns-6 c = rw (c .before .before .before .before .enum-told4 .given .1, was-refused (number _ _) (c .before .before .before .number-at .ensures) (c .before .refusal2 .given .1))
+returns-6 c =
+    rw (
+      c .before .before .before .before .enum-told4 .given .1,
+      was-refused (number _ _) (c .before .before .before .number-at .ensures)
+          (c .before .refusal2 .given .1),
+    )
 
 returns-7 : tie.Need-returns-7
-returns-7 c = rw (no-operand (c .before .before .args .image .now) (c .before .before .args .known) (c .before .before .args .around) (c .before .before .args .first) (c .before .before .args .operation) (c .before .before .args .at) (c .match .keys5))
+returns-7 c =
+    let a = c .before .before .args in
+    rw (no-operand (a .image .now) (a .known) (a .around) (a .first) (a .operation) (a .at) (c .match .keys5))
 
 pub read-operand-spec : {M : Type 1} → statement M
 read-operand-spec =

@@ -33,11 +33,25 @@ same-length c = search needs
 
 returns : tie.Need-returns
 unfolding variableRows
-returns c = let s = c .before .before .before .before .before .before .before in rw (← s .before .before .lets-of .ensures, was-got (below _ _ _ _) (s .before .below-at .ensures) (c .before .before .before .before .before .before .value .given .1), ← c .before .before .before .before .behind-head .ensures) (c .before .before .write-row .ensures)
+returns c =
+    let s = c .before .before .before .before .before .before .before in
+    rw (
+      ← s .before .before .lets-of .ensures,
+      was-got (below _ _ _ _) (s .before .below-at .ensures)
+          (c .before .before .before .before .before .before .value .given .1),
+      ← c .before .before .before .before .behind-head .ensures,
+    )
+    (c .before .before .write-row .ensures)
 
 returns-2 : tie.Need-returns-2
 unfolding variableRows
-returns-2 c = rw (← c .before .before .before .before .before .lets-of .ensures, was-refused (below _ _ _ _) (c .before .before .before .before .below-at .ensures) (c .before .before .refusal .given .1), c .refused .ensures)
+returns-2 c =
+    rw (
+      ← c .before .before .before .before .before .lets-of .ensures,
+      was-refused (below _ _ _ _) (c .before .before .before .before .below-at .ensures)
+          (c .before .before .refusal .given .1),
+      c .refused .ensures,
+    )
 
 pub read-variable-spec : {M : Type 1} → statement M
 read-variable-spec =

@@ -21,13 +21,22 @@ put-row-requires : tie.Need-put-row-requires
 put-row-requires c κs = search needs
 
 add-result : tie.Need-add-result
-add-result c = let s = c .before .before .before .before .before .before .before in omega (arith, answer-below _ (s .before .before .pre))
+add-result c =
+    let s = c .before .before .before .before .before .before .before in
+    omega (arith, answer-below _ (s .before .before .pre))
 
 same-length : tie.Need-same-length
 same-length c = search needs
 
 returns : tie.Need-returns
-returns c = rw (c .before .before .put-row .ensures, c .before .before .before .rows-of .ensures, c .before .before .before .before .before .head-number .ensures, c .before .before .before .before .before .before .before .is-in-block .ensures, c .before .before .before .before .before .before .nodes-of .ensures)
+returns c =
+    rw (
+      c .before .before .put-row .ensures,
+      c .before .before .before .rows-of .ensures,
+      c .before .before .before .before .before .head-number .ensures,
+      c .before .before .before .before .before .before .before .is-in-block .ensures,
+      c .before .before .before .before .before .before .nodes-of .ensures,
+    )
 
 pub write-row-spec : {M : Type 1} → statement M
 write-row-spec =

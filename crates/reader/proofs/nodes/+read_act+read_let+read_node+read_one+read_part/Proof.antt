@@ -11,7 +11,9 @@ use Rattle.image.proofs.Answered.{was-got, was-refused}
 use Rattle.reader.specs.Cursors.{depthIn}
 use Rattle.reader.specs.Reads.{operandOf, operationRows, nodeRows}
 use Rattle.reader.proofs.Others.{one-of}
-use Rattle.reader.proofs.Steps.{deeper-depth, under-depth, no-code, too-deep, too-many, opened, leaf-read, was-operand, was-no-operand, operand-deeper, part-read, one-read, left-refused, act-read, bound-refused, let-read}
+use Rattle.reader.proofs.ShortLeaves.{short-read}
+use Rattle.reader.proofs.Steps.{deeper-depth, under-depth, no-code, too-deep, too-many, by-operation}
+use Rattle.reader.proofs.Behind.{was-operand, was-no-operand, operand-deeper, part-read, one-read, left-refused, act-read, bound-refused, let-read}
 use Rattle.reader.proofs.nodes.read_act.Reads as read-act
 use Rattle.reader.proofs.nodes.read_act.Kinds as read-act-kinds
 use Rattle.reader.proofs.nodes.+read_act+read_let+read_node+read_one+read_part.Lts-read_act as read-act-lts
@@ -28,6 +30,7 @@ use Rattle.reader.proofs.nodes.read_part.Reads as read-part
 use Rattle.reader.proofs.nodes.read_part.Kinds as read-part-kinds
 use Rattle.reader.proofs.nodes.+read_act+read_let+read_node+read_one+read_part.Lts-read_part as read-part-lts
 use Rattle.calculus.proofs.operation_of.Reads as operation-of-reads
+use Rattle.reader.proofs.bytes.number_at.Reads as number-at-reads
 use Rattle.reader.proofs.cursor.behind_head.Reads as behind-head-reads
 use Rattle.reader.proofs.cursor.deeper.Reads as deeper-reads
 use Rattle.reader.proofs.cursor.depth_of.Reads as depth-of-reads
@@ -38,15 +41,14 @@ use Rattle.reader.proofs.cursor.refusal_number.Reads as refusal-number-
 use Rattle.reader.proofs.cursor.rows_of.Reads as rows-of-reads
 use Rattle.reader.proofs.cursor.under_let.Reads as under-let-reads
 use Rattle.reader.proofs.leaves.close_row.Reads as close-row-reads
-use Rattle.reader.proofs.leaves.read_leaf.Reads as read-leaf-reads
 use Rattle.reader.proofs.leaves.read_literal.Reads as read-literal-reads
 use Rattle.reader.proofs.leaves.read_malloc.Reads as read-malloc-reads
 use Rattle.reader.proofs.leaves.read_operand.Reads as read-operand-reads
 use Rattle.reader.proofs.leaves.read_variable.Reads as read-variable-reads
 use Rattle.reader.proofs.leaves.refused.Reads as refused-reads
 use Rattle.reader.proofs.leaves.write_row.Reads as write-row-reads
-use Rattle.reader.proofs.short.number_at.Reads as number-at-reads
-use Rattle.reader.proofs.short.wide.Reads as wide-reads
+use Rattle.reader.proofs.short.is_short.Reads as is-short-reads
+use Rattle.reader.proofs.short.short_leaf.Reads as short-leaf-reads
 use Rattle.reader.proofs.nodes.+read_act+read_let+read_node+read_one+read_part.{statement}
 use Rattle.reader.proofs.nodes.+read_act+read_let+read_node+read_one+read_part.Tie.{close}
 
@@ -98,245 +100,358 @@ part-below t = and 2 read-part-kinds.ps (falls 2 read-part-kinds.ps _<_ μ-read-
 
 -- what is known of the functions that each calls
 abbrev act-calls : ℕ → read-act-lts.Claims
-act-calls t = (deeper-reads.Asked, deeper-reads.Learnt, behind-head-reads.Asked, behind-head-reads.Learnt, part-below t, read-part.Post, is-refusal-reads.Asked, is-refusal-reads.Learnt, rows-of-reads.Asked, rows-of-reads.Learnt, close-row-reads.Asked, close-row-reads.Learnt)
+act-calls t = (
+  deeper-reads.Asked,
+  deeper-reads.Learnt,
+  behind-head-reads.Asked,
+  behind-head-reads.Learnt,
+  part-below t,
+  read-part.Post,
+  is-refusal-reads.Asked,
+  is-refusal-reads.Learnt,
+  rows-of-reads.Asked,
+  rows-of-reads.Learnt,
+  close-row-reads.Asked,
+  close-row-reads.Learnt,
+)
 
 abbrev let-calls : ℕ → read-let-lts.Claims
-let-calls t = (behind-head-reads.Asked, behind-head-reads.Learnt, deeper-reads.Asked, deeper-reads.Learnt, part-below t, read-part.Post, is-refusal-reads.Asked, is-refusal-reads.Learnt, write-row-reads.Asked, write-row-reads.Learnt, under-let-reads.Asked, under-let-reads.Learnt, rows-of-reads.Asked, rows-of-reads.Learnt, close-row-reads.Asked, close-row-reads.Learnt)
+let-calls t = (
+  behind-head-reads.Asked,
+  behind-head-reads.Learnt,
+  deeper-reads.Asked,
+  deeper-reads.Learnt,
+  part-below t,
+  read-part.Post,
+  is-refusal-reads.Asked,
+  is-refusal-reads.Learnt,
+  write-row-reads.Asked,
+  write-row-reads.Learnt,
+  under-let-reads.Asked,
+  under-let-reads.Learnt,
+  rows-of-reads.Asked,
+  rows-of-reads.Learnt,
+  close-row-reads.Asked,
+  close-row-reads.Learnt,
+)
 
 abbrev node-calls : ℕ → read-node-lts.Claims
-node-calls t = (offset-of-reads.Asked, offset-of-reads.Learnt, number-at-reads.Asked, number-at-reads.Learnt, depth-of-reads.Asked, depth-of-reads.Learnt, refusal-number-reads.Asked, refusal-number-reads.Learnt, nodes-of-reads.Asked, nodes-of-reads.Learnt, operation-of-reads.Asked, operation-of-reads.Learnt, read-literal-reads.Asked, read-literal-reads.Learnt, read-variable-reads.Asked, read-variable-reads.Learnt, act-below t, read-act.Post, let-below t, read-let.Post, read-malloc-reads.Asked, read-malloc-reads.Learnt, one-below t, read-one.Post, refused-reads.Asked, refused-reads.Learnt)
+node-calls t = (
+  offset-of-reads.Asked,
+  offset-of-reads.Learnt,
+  number-at-reads.Asked,
+  number-at-reads.Learnt,
+  depth-of-reads.Asked,
+  depth-of-reads.Learnt,
+  refusal-number-reads.Asked,
+  refusal-number-reads.Learnt,
+  nodes-of-reads.Asked,
+  nodes-of-reads.Learnt,
+  operation-of-reads.Asked,
+  operation-of-reads.Learnt,
+  read-literal-reads.Asked,
+  read-literal-reads.Learnt,
+  read-variable-reads.Asked,
+  read-variable-reads.Learnt,
+  act-below
+      t,
+  read-act.Post,
+  let-below t,
+  read-let.Post,
+  read-malloc-reads.Asked,
+  read-malloc-reads.Learnt,
+  one-below t,
+  read-one.Post,
+  refused-reads.Asked,
+  refused-reads.Learnt,
+)
 
 abbrev one-calls : ℕ → read-one-lts.Claims
-one-calls t = (offset-of-reads.Asked, offset-of-reads.Learnt, read-operand-reads.Asked, read-operand-reads.Learnt, behind-head-reads.Asked, behind-head-reads.Learnt, part-below t, read-part.Post, close-row-reads.Asked, close-row-reads.Learnt, refused-reads.Asked, refused-reads.Learnt)
+one-calls t = (
+  offset-of-reads.Asked,
+  offset-of-reads.Learnt,
+  read-operand-reads.Asked,
+  read-operand-reads.Learnt,
+  behind-head-reads.Asked,
+  behind-head-reads.Learnt,
+  part-below t,
+  read-part.Post,
+  close-row-reads.Asked,
+  close-row-reads.Learnt,
+  refused-reads.Asked,
+  refused-reads.Learnt,
+)
 
 abbrev part-calls : ℕ → read-part-lts.Claims
-part-calls t = (offset-of-reads.Asked, offset-of-reads.Learnt, wide-reads.Asked, wide-reads.Learnt, read-leaf-reads.Asked, read-leaf-reads.Learnt, node-below t, read-node.Post)
-
-act-deeper-requires : (t : ℕ) → read-act-lts.Need-deeper-requires (act-calls t) (act-at t) read-act.Post
-act-deeper-requires t c κs = omega (arith, c .before .before .pre)
+part-calls t =
+    (is-short-reads.Asked, is-short-reads.Learnt, short-leaf-reads.Asked, short-leaf-reads.Learnt, node-below t, read-node.Post)
 
 act-read-part-requires : (t : ℕ) → read-act-lts.Need-read-part-requires (act-calls t) (act-at t) read-act.Post
-act-read-part-requires t c κs = omega (arith, c .before .before .before .before .before .pre, ap depthIn (c .before .before .deeper .ensures) ∙ deeper-depth (c .before .before .before .before .before .args .around))
-
-act-same-length : (t : ℕ) → read-act-lts.Need-same-length (act-calls t) (act-at t) read-act.Post
-act-same-length t c = c .before .before .before .before .read-part .kept .0
+act-read-part-requires t c κs =
+    omega (
+      arith,
+      c .before .before .before .before .before .pre,
+      ap depthIn (c .before .before .deeper .ensures) ∙ deeper-depth
+          (c .before .before .before .before .before .args .around),
+    )
 
 act-returns : (t : ℕ) → read-act-lts.Need-returns (act-calls t) (act-at t) read-act.Post
-act-returns t c = let s = c .before .before .before .before .before .before .before in left-refused (nodeRows (s .before .before .before .args .image .now) (s .before .before .before .args .known) (s .before .before .before .args .structs) _) _ _ _ _ (part-read (s .before .before .before .args .image .now) (s .before .before .before .args .known) (s .before .before .before .args .structs) _ (c .before .before .before .before .read-part .ensures) (c .before .before .before .before .before .before .before .deeper .ensures) (deeper-depth _) (c .before .before .before .before .before .before .behind-head .ensures)) _ (sym (c .before .is-refusal .ensures) ∙ c .if1 .taken)
+act-returns t c =
+    let s = c .before .before .before .before .before .before .before in
+    let a = s .before .before .before .args in
+    left-refused (nodeRows (a .image .now) (a .known) (a .structs) _) _ _ _ _
+    (part-read (a .image .now) (a .known) (a .structs) _ (c .before .before .before .before .read-part .ensures)
+    (c .before .before .before .before .before .before .before .deeper .ensures) (deeper-depth _)
+    (c .before .before .before .before .before .before .behind-head .ensures)) _ (sym (c .before .is-refusal .ensures) ∙ c .if1 .taken)
 
 act-read-part-requires-2 : (t : ℕ) → read-act-lts.Need-read-part-requires-2 (act-calls t) (act-at t) read-act.Post
-act-read-part-requires-2 t c κs = let s = c .before .before .before .before .before .before .before in omega (arith, s .before .before .before .before .pre, ap depthIn (s .before .deeper .ensures) ∙ deeper-depth (s .before .before .before .before .args .around))
+act-read-part-requires-2 t c κs =
+    let s = c .before .before .before .before .before .before .before in
+    omega (
+      arith,
+      s .before .before .before .before .pre,
+      ap depthIn (s .before .deeper .ensures) ∙ deeper-depth
+          (s .before .before .before .before .args .around),
+    )
 
 act-same-length-2 : (t : ℕ) → read-act-lts.Need-same-length-2 (act-calls t) (act-at t) read-act.Post
-act-same-length-2 t c = let s = c .before .before .before .before .before .before .before in c .before .before .close-row .kept .0 ∙ c .before .before .before .before .before .before .before .read-part2 .kept .0 ∙ s .before .before .before .before .before .before .read-part .kept .0
+act-same-length-2 t c =
+    let s = c .before .before .before .before .before .before .before in
+    c .before .before .close-row .kept .0 ∙ c .before .before .before .before .before .before .before .read-part2 .kept .0
+    ∙ s .before .before .before .before .before .before .read-part .kept .0
 
 act-returns-2 : (t : ℕ) → read-act-lts.Need-returns-2 (act-calls t) (act-at t) read-act.Post
-act-returns-2 t c = let s = c .before .before .before .before .before .before .before in let u = s .before .before .before .before .before .before .before in act-read (nodeRows (u .before .before .before .before .before .args .image .now) (u .before .before .before .before .before .args .known) (u .before .before .before .before .before .args .structs) _) _ _ _ _ (part-read (u .before .before .before .before .before .args .image .now) (u .before .before .before .before .before .args .known) (u .before .before .before .before .before .args .structs) _ (s .before .before .before .before .before .before .read-part .ensures) (u .before .before .deeper .ensures) (deeper-depth _) (u .before .behind-head .ensures)) _ (sym (s .before .before .before .is-refusal .ensures) ∙ s .before .before .if1 .left) (part-read (u .before .before .before .before .before .args .image .now) (u .before .before .before .before .before .args .known) (u .before .before .before .before .before .args .structs) _ (c .before .before .before .before .before .before .before .read-part2 .ensures) (u .before .before .deeper .ensures) (deeper-depth _) refl) (rw (c .before .before .before .rows-of .ensures) at (c .before .before .close-row .ensures))
-
-let-deeper-requires : (t : ℕ) → read-let-lts.Need-deeper-requires (let-calls t) (let-at t) read-let.Post
-let-deeper-requires t c κs = omega (arith, c .before .before .before .before .pre)
+act-returns-2 t c =
+    let s = c .before .before .before .before .before .before .before in
+    let u = s .before .before .before .before .before .before .before in
+    let a = u .before .before .before .before .before .args in
+    act-read (nodeRows (a .image .now) (a .known) (a .structs) _) _ _ _ _
+    (part-read (a .image .now) (a .known) (a .structs) _ (s .before .before .before .before .before .before .read-part .ensures)
+    (u .before .before .deeper .ensures) (deeper-depth _) (u .before .behind-head .ensures)) _
+    (sym (s .before .before .before .is-refusal .ensures) ∙ s .before .before .if1 .left)
+    (part-read (a .image .now) (a .known) (a .structs) _ (c .before .before .before .before .before .before .before .read-part2 .ensures)
+    (u .before .before .deeper .ensures) (deeper-depth _) refl)
+    (rw (c .before .before .before .rows-of .ensures) at (c .before .before .close-row .ensures))
 
 let-read-part-requires : (t : ℕ) → read-let-lts.Need-read-part-requires (let-calls t) (let-at t) read-let.Post
-let-read-part-requires t c κs = omega (arith, c .before .before .before .before .before .pre, ap depthIn (c .deeper .ensures) ∙ deeper-depth (c .before .before .before .before .before .args .around))
-
-let-same-length : (t : ℕ) → read-let-lts.Need-same-length (let-calls t) (let-at t) read-let.Post
-let-same-length t c = c .before .before .before .before .read-part .kept .0
+let-read-part-requires t c κs =
+    omega (
+      arith,
+      c .before .before .before .before .before .pre,
+      ap depthIn (c .deeper .ensures) ∙ deeper-depth
+          (c .before .before .before .before .before .args .around),
+    )
 
 let-returns : (t : ℕ) → read-let-lts.Need-returns (let-calls t) (let-at t) read-let.Post
-let-returns t c = let s = c .before .before .before .before .before .before .before in bound-refused (nodeRows (s .before .before .before .args .image .now) (s .before .before .before .args .known) (s .before .before .before .args .structs) _) _ _ _ _ (part-read (s .before .before .before .args .image .now) (s .before .before .before .args .known) (s .before .before .before .args .structs) _ (c .before .before .before .before .read-part .ensures) (c .before .before .before .before .before .deeper .ensures) (deeper-depth _) (c .before .before .before .before .before .before .before .behind-head .ensures)) (sym (c .before .is-refusal .ensures) ∙ c .if1 .taken)
-
-let-write-row-requires : (t : ℕ) → read-let-lts.Need-write-row-requires (let-calls t) (let-at t) read-let.Post
-let-write-row-requires t c κs = sym (c .before .before .is-refusal .ensures) ∙ c .before .if1 .left
+let-returns t c =
+    let s = c .before .before .before .before .before .before .before in
+    let a = s .before .before .before .args in
+    bound-refused (nodeRows (a .image .now) (a .known) (a .structs) _) _ _ _ _
+    (part-read (a .image .now) (a .known) (a .structs) _ (c .before .before .before .before .read-part .ensures)
+    (c .before .before .before .before .before .deeper .ensures) (deeper-depth _)
+    (c .before .before .before .before .before .before .before .behind-head .ensures)) (sym (c .before .is-refusal .ensures) ∙ c .if1 .taken)
 
 let-under-let-requires : (t : ℕ) → read-let-lts.Need-under-let-requires (let-calls t) (let-at t) read-let.Post
-let-under-let-requires t c κs = let s = c .before .before .before .before .before .before .before in let u = s .before .before .before .before .before .before .before in omega (arith, u .before .pre)
+let-under-let-requires t c κs =
+    let s = c .before .before .before .before .before .before .before in
+    let u = s .before .before .before .before .before .before .before in
+    omega (arith, u .before .pre)
 
 let-read-part-requires-2 : (t : ℕ) → read-let-lts.Need-read-part-requires-2 (let-calls t) (let-at t) read-let.Post
-let-read-part-requires-2 t c κs = let s = c .before .before .before .before .before .before .before in let u = s .before .before .before .before .before .before .before in omega (arith, u .before .before .pre, ap depthIn (c .under-let .ensures) ∙ under-depth (u .before .before .args .around))
+let-read-part-requires-2 t c κs =
+    let s = c .before .before .before .before .before .before .before in
+    let u = s .before .before .before .before .before .before .before in
+    omega (arith, u .before .before .pre, ap depthIn (c .under-let .ensures) ∙ under-depth (u .before .before .args .around))
 
 let-same-length-2 : (t : ℕ) → read-let-lts.Need-same-length-2 (let-calls t) (let-at t) read-let.Post
-let-same-length-2 t c = let s = c .before .before .before .before .before .before .before in let u = s .before .before .before .before .before .before .before in c .before .before .close-row .kept .0 ∙ c .before .before .before .before .before .before .before .read-part2 .kept .0 ∙ s .before .before .before .before .before .write-row .kept .0 ∙ u .before .before .before .before .read-part .kept .0
+let-same-length-2 t c =
+    let s = c .before .before .before .before .before .before .before in
+    let u = s .before .before .before .before .before .before .before in
+    c .before .before .close-row .kept .0 ∙ c .before .before .before .before .before .before .before .read-part2 .kept .0
+    ∙ s .before .before .before .before .before .write-row .kept .0 ∙ u .before .before .before .before .read-part .kept .0
 
 let-returns-2 : (t : ℕ) → read-let-lts.Need-returns-2 (let-calls t) (let-at t) read-let.Post
-let-returns-2 t c = let s = c .before .before .before .before .before .before .before in let u = s .before .before .before .before .before .before .before in let v = u .before .before .before .before .before .before .before in let-read (nodeRows (v .before .before .before .args .image .now) (v .before .before .before .args .known) (v .before .before .before .args .structs) _) _ _ _ _ (part-read (v .before .before .before .args .image .now) (v .before .before .before .args .known) (v .before .before .before .args .structs) _ (u .before .before .before .before .read-part .ensures) (u .before .before .before .before .before .deeper .ensures) (deeper-depth _) (v .behind-head .ensures)) (sym (u .before .is-refusal .ensures) ∙ u .if1 .left) (s .before .before .before .before .before .write-row .ensures) (part-read (v .before .before .before .args .image .now) (v .before .before .before .args .known) (v .before .before .before .args .structs) _ (c .before .before .before .before .before .before .before .read-part2 .ensures) (s .before .under-let .ensures) (under-depth _) refl) (rw (c .before .before .before .rows-of .ensures) at (c .before .before .close-row .ensures))
+let-returns-2 t c =
+    let s = c .before .before .before .before .before .before .before in
+    let u = s .before .before .before .before .before .before .before in
+    let v = u .before .before .before .before .before .before .before in
+    let a = v .before .before .before .args in
+    let-read (nodeRows (a .image .now) (a .known) (a .structs) _) _ _ _ _
+    (part-read (a .image .now) (a .known) (a .structs) _ (u .before .before .before .before .read-part .ensures)
+    (u .before .before .before .before .before .deeper .ensures) (deeper-depth _) (v .behind-head .ensures))
+    (sym (u .before .is-refusal .ensures) ∙ u .if1 .left) (s .before .before .before .before .before .write-row .ensures)
+    (part-read (a .image .now) (a .known) (a .structs) _ (c .before .before .before .before .before .before .before .read-part2 .ensures)
+    (s .before .under-let .ensures) (under-depth _) refl)
+    (rw (c .before .before .before .rows-of .ensures) at (c .before .before .close-row .ensures))
 
 -- the node, opened by the operation that its code is
 opened-here : (t : ℕ) (c : read-node-lts.After-operation-of (node-calls t) (node-at t) read-node.Post)
-    → let s = c .before .before .before .before .before .before .before in nodeRows (s .before .before .before .before .before .args .image .now) (s .before .before .before .before .before .args .known) (s .before .before .before .before .before .args .structs) (depthIn (s .before .before .before .before .before .args .around)) (s .before .before .before .before .before .args .around) (s .before .before .before .before .before .args .cursor) (s .before .before .before .before .before .args .rows .now) ≡ operationRows (s .before .before .before .before .before .args .image .now) (s .before .before .before .before .before .args .known) (s .before .before .before .before .before .args .structs) (nodeRows (s .before .before .before .before .before .args .image .now) (s .before .before .before .before .before .args .known) (s .before .before .before .before .before .args .structs) (depthIn (s .before .before .before .before .before .args .around) - 1)) (s .before .before .before .before .before .args .around) (s .before .before .before .before .before .args .cursor) (c .operation-of .result) (c .before .before .before .before .before .before .value .given .0 .1 .0) (s .before .before .before .before .before .args .rows .now)
-opened-here t c = let s = c .before .before .before .before .before .before .before in rw (c .operation-of .ensures) (opened _ _ _ _ _ _ (rw (s .before .before .offset-of .ensures) at (was-got (number _ _) (s .before .number-at .ensures) (c .before .before .before .before .before .before .value .given .1))) (λ e. c .before .before .before .if1 .left (c .before .before .before .before .depth-of .ensures ∙ e)) (rw (c .before .before .nodes-of .ensures) at (c .before .if2 .left)))
+    → let s = c .before .before .before .before .before .before .before in let a = s .before .before .before .before .before .args in
+    nodeRows (a .image .now) (a .known) (a .structs) (depthIn (a .around)) (a .around) (a .cursor) (a .rows .now) ≡ operationRows (a .image .now)
+    (a .known) (a .structs) (nodeRows (a .image .now) (a .known) (a .structs) (depthIn (a .around) - 1)) (a .around) (a .cursor)
+    (c .operation-of .result) (c .before .before .before .before .before .before .value .given .0 .1 .0) (a .rows .now)
+opened-here t c =
+    let s = c .before .before .before .before .before .before .before in
+    rw (c .operation-of .ensures)
+    (by-operation _ _ _ _ _ _
+    (rw (s .before .before .offset-of .ensures)
+    at (was-got (number _ _) (s .before .number-at .ensures) (c .before .before .before .before .before .before .value .given .1)))
+    (λ e. c .before .before .before .if1 .left (c .before .before .before .before .depth-of .ensures ∙ e))
+    (rw (c .before .before .nodes-of .ensures) at (c .before .if2 .left)))
 
 node-returns : (t : ℕ) → read-node-lts.Need-returns (node-calls t) (node-at t) read-node.Post
-node-returns t c = rw (c .refusal-number .ensures, c .before .before .before .before .before .before .before .offset-of .ensures, too-deep _ _ _ _ _ _ (rw (c .before .before .before .before .before .before .before .offset-of .ensures) at (was-got (number _ _) (c .before .before .before .before .before .before .number-at .ensures) (c .before .before .before .before .value .given .1))) (sym (c .before .before .depth-of .ensures) ∙ c .before .if1 .taken))
+node-returns t c =
+    rw (
+      c .refusal-number .ensures,
+      c .before .before .before .before .before .before .before .offset-of .ensures,
+      too-deep _ _ _ _ _ _
+          (rw (c .before .before .before .before .before .before .before .offset-of .ensures)
+          at (was-got (number _ _) (c .before .before .before .before .before .before .number-at .ensures) (c .before .before .before .before .value .given .1)))
+          (sym (c .before .before .depth-of .ensures) ∙ c .before .if1 .taken),
+    )
 
 node-returns-2 : (t : ℕ) → read-node-lts.Need-returns-2 (node-calls t) (node-at t) read-node.Post
-node-returns-2 t c = let s = c .before .before .before .before .before .before .before in rw (c .refusal-number2 .ensures, s .before .before .offset-of .ensures, too-many _ _ _ _ _ _ (rw (s .before .before .offset-of .ensures) at (was-got (number _ _) (s .before .number-at .ensures) (c .before .before .before .before .before .before .value .given .1))) (λ e. c .before .before .before .if1 .left (c .before .before .before .before .depth-of .ensures ∙ e)) (rw (c .before .before .nodes-of .ensures) at (c .before .if2 .taken)))
+node-returns-2 t c =
+    let s = c .before .before .before .before .before .before .before in
+    rw (
+      c .refusal-number2 .ensures,
+      s .before .before .offset-of .ensures,
+      too-many _ _ _ _ _ _
+          (rw (s .before .before .offset-of .ensures)
+          at (was-got (number _ _) (s .before .number-at .ensures) (c .before .before .before .before .before .before .value .given .1)))
+          (λ e. c .before .before .before .if1 .left (c .before .before .before .before .depth-of .ensures ∙ e))
+          (rw (c .before .before .nodes-of .ensures) at (c .before .if2 .taken)),
+    )
 
 node-read-act-requires : (t : ℕ) → read-node-lts.Need-read-act-requires (node-calls t) (node-at t) read-node.Post
-node-read-act-requires t c κs = let s = c .before .before .before .before .before .before .before in let u = s .before .before .before .before .before .before .before in omega (arith, u .before .before .pre, c .before .before .before .before .before .before .before .if1 .left, s .before .depth-of .ensures)
+node-read-act-requires t c κs =
+    let s = c .before .before .before .before .before .before .before in
+    let u = s .before .before .before .before .before .before .before in
+    omega (arith, u .before .before .pre, c .before .before .before .before .before .before .before .if1 .left, s .before .depth-of .ensures)
 
 node-read-let-requires : (t : ℕ) → read-node-lts.Need-read-let-requires (node-calls t) (node-at t) read-node.Post
-node-read-let-requires t c κs = let s = c .before .before .before .before .before .before .before in let u = s .before .before .before .before .before .before .before in omega (arith, u .before .pre, c .before .before .before .before .before .before .if1 .left, c .before .before .before .before .before .before .before .depth-of .ensures)
+node-read-let-requires t c κs =
+    let s = c .before .before .before .before .before .before .before in
+    let u = s .before .before .before .before .before .before .before in
+    omega (
+      arith,
+      u .before .pre,
+      c .before .before .before .before .before .before .if1 .left,
+      c .before .before .before .before .before .before .before .depth-of .ensures,
+    )
 
 node-read-one-requires : (t : ℕ) → read-node-lts.Need-read-one-requires (node-calls t) (node-at t) read-node.Post
-node-read-one-requires t c κs = let s = c .before .before .before .before .before .before .before in let u = s .before .before .before .before .before .before .before in omega (arith, u .pre, c .before .before .before .before .before .if1 .left, c .before .before .before .before .before .before .depth-of .ensures)
-
-node-same-length : (t : ℕ) → read-node-lts.Need-same-length (node-calls t) (node-at t) read-node.Post
-node-same-length t c = c .before .before .read-literal .kept .0
+node-read-one-requires t c κs =
+    let s = c .before .before .before .before .before .before .before in
+    let u = s .before .before .before .before .before .before .before in
+    omega (arith, u .pre, c .before .before .before .before .before .if1 .left, c .before .before .before .before .before .before .depth-of .ensures)
 
 node-returns-3 : (t : ℕ) → read-node-lts.Need-returns-3 (node-calls t) (node-at t) read-node.Post
-node-returns-3 t c = rw (opened-here t (c .before .before .before .before .before .before), c .before .before .before .before .enum-told .given .1) (c .before .before .read-literal .ensures)
-
-node-same-length-2 : (t : ℕ) → read-node-lts.Need-same-length-2 (node-calls t) (node-at t) read-node.Post
-node-same-length-2 t c = c .before .before .read-variable .kept .0
+node-returns-3 t c =
+    rw (opened-here t (c .before .before .before .before .before .before), c .before .before .before .before .enum-told .given .1)
+    (c .before .before .read-literal .ensures)
 
 node-returns-4 : (t : ℕ) → read-node-lts.Need-returns-4 (node-calls t) (node-at t) read-node.Post
-node-returns-4 t c = rw (opened-here t (c .before .before .before .before .before .before), c .before .before .before .before .enum-told2 .given .1) (c .before .before .read-variable .ensures)
-
-node-same-length-3 : (t : ℕ) → read-node-lts.Need-same-length-3 (node-calls t) (node-at t) read-node.Post
-node-same-length-3 t c = c .before .before .read-act .kept .0
+node-returns-4 t c =
+    rw (opened-here t (c .before .before .before .before .before .before), c .before .before .before .before .enum-told2 .given .1)
+    (c .before .before .read-variable .ensures)
 
 node-returns-5 : (t : ℕ) → read-node-lts.Need-returns-5 (node-calls t) (node-at t) read-node.Post
-node-returns-5 t c = rw (opened-here t (c .before .before .before .before .before .before .before), c .before .before .before .before .before .o .given .1) (c .before .before .read-act .ensures)
-
-node-same-length-4 : (t : ℕ) → read-node-lts.Need-same-length-4 (node-calls t) (node-at t) read-node.Post
-node-same-length-4 t c = c .before .before .read-let .kept .0
+node-returns-5 t c =
+    rw (opened-here t (c .before .before .before .before .before .before .before), c .before .before .before .before .before .o .given .1)
+    (c .before .before .read-act .ensures)
 
 node-returns-6 : (t : ℕ) → read-node-lts.Need-returns-6 (node-calls t) (node-at t) read-node.Post
-node-returns-6 t c = rw (opened-here t (c .before .before .before .before .before .before), c .before .before .before .before .enum-told3 .given .1) (c .before .before .read-let .ensures)
-
-node-same-length-5 : (t : ℕ) → read-node-lts.Need-same-length-5 (node-calls t) (node-at t) read-node.Post
-node-same-length-5 t c = c .before .before .read-malloc .kept .0
+node-returns-6 t c =
+    rw (opened-here t (c .before .before .before .before .before .before), c .before .before .before .before .enum-told3 .given .1)
+    (c .before .before .read-let .ensures)
 
 node-returns-7 : (t : ℕ) → read-node-lts.Need-returns-7 (node-calls t) (node-at t) read-node.Post
-node-returns-7 t c = rw (opened-here t (c .before .before .before .before .before .before), c .before .before .before .before .enum-told4 .given .1) (c .before .before .read-malloc .ensures)
-
-node-same-length-6 : (t : ℕ) → read-node-lts.Need-same-length-6 (node-calls t) (node-at t) read-node.Post
-node-same-length-6 t c = c .before .before .read-one .kept .0
+node-returns-7 t c =
+    rw (opened-here t (c .before .before .before .before .before .before), c .before .before .before .before .enum-told4 .given .1)
+    (c .before .before .read-malloc .ensures)
 
 node-returns-8 : (t : ℕ) → read-node-lts.Need-returns-8 (node-calls t) (node-at t) read-node.Post
-node-returns-8 t c = rw (opened-here t (c .before .before .before .before .before)) (c .before .before .read-one .ensures ∙ one-of _ _ _ _ _ _ _ _ _ (c .before .before .before .before .match2 .keys6))
+node-returns-8 t c =
+    rw (opened-here t (c .before .before .before .before .before))
+    (c .before .before .read-one .ensures ∙ one-of _ _ _ _ _ _ _ _ _ (c .before .before .before .before .match2 .keys6))
 
 node-returns-9 : (t : ℕ) → read-node-lts.Need-returns-9 (node-calls t) (node-at t) read-node.Post
-node-returns-9 t c = rw (c .refused .ensures) (sym (no-code _ _ _ _ _ _ (rw (c .before .before .before .before .before .offset-of .ensures) at (was-refused (number _ _) (c .before .before .before .before .number-at .ensures) (c .before .before .refusal .given .1)))))
-
-one-read-operand-requires : (t : ℕ) → read-one-lts.Need-read-operand-requires (one-calls t) (one-at t) read-one.Post
-one-read-operand-requires t c κs = omega (arith, c .before .before .before .pre)
+node-returns-9 t c =
+    rw (c .refused .ensures)
+    (sym
+    (no-code _ _ _ _ _ _
+    (rw (c .before .before .before .before .before .offset-of .ensures)
+    at (was-refused (number _ _) (c .before .before .before .before .number-at .ensures) (c .before .before .refusal .given .1)))))
 
 one-read-part-requires : (t : ℕ) → read-one-lts.Need-read-part-requires (one-calls t) (one-at t) read-one.Post
-one-read-part-requires t c κs = let s = c .before .before .before .before .before .before .before in omega (arith, s .before .before .pre, operand-deeper _ _ _ _ _ _ (was-operand (operandOf _ _ _ _ _ _) (rw (c .before .before .before .before .before .before .offset-of .ensures) at (c .before .before .before .before .before .read-operand .ensures)) (c .before .before .before .task .given .1)))
-
-one-same-length : (t : ℕ) → read-one-lts.Need-same-length (one-calls t) (one-at t) read-one.Post
-one-same-length t c = c .before .before .close-row .kept .0 ∙ c .before .before .before .before .before .before .read-part .kept .0
+one-read-part-requires t c κs =
+    let s = c .before .before .before .before .before .before .before in
+    omega (
+      arith,
+      s .before .before .pre,
+      operand-deeper _ _ _ _ _ _
+          (was-operand (operandOf _ _ _ _ _ _)
+          (rw (c .before .before .before .before .before .before .offset-of .ensures) at (c .before .before .before .before .before .read-operand .ensures))
+          (c .before .before .before .task .given .1)),
+    )
 
 one-returns : (t : ℕ) → read-one-lts.Need-returns (one-calls t) (one-at t) read-one.Post
-one-returns t c = let s = c .before .before .before .before .before .before .before in let u = s .before .before .before .before .before .before .before in one-read (nodeRows (u .before .before .args .image .now) (u .before .before .args .known) (u .before .before .args .structs) _) _ _ (operandOf _ _ _ _ _ _) (was-operand (operandOf _ _ _ _ _ _) (rw (s .before .before .before .before .before .before .offset-of .ensures) at (s .before .before .before .before .before .read-operand .ensures)) (s .before .before .before .task .given .1)) (part-read (u .before .before .args .image .now) (u .before .before .args .known) (u .before .before .args .structs) _ (c .before .before .before .before .before .before .read-part .ensures) refl (operand-deeper _ _ _ _ _ _ (was-operand (operandOf _ _ _ _ _ _) (rw (s .before .before .before .before .before .before .offset-of .ensures) at (s .before .before .before .before .before .read-operand .ensures)) (s .before .before .before .task .given .1))) (s .before .behind-head .ensures)) (c .before .before .close-row .ensures)
+one-returns t c =
+    let s = c .before .before .before .before .before .before .before in
+    let u = s .before .before .before .before .before .before .before in
+    let a = u .before .before .args in
+    one-read (nodeRows (a .image .now) (a .known) (a .structs) _) _ _ (operandOf _ _ _ _ _ _)
+    (was-operand (operandOf _ _ _ _ _ _)
+    (rw (s .before .before .before .before .before .before .offset-of .ensures) at (s .before .before .before .before .before .read-operand .ensures))
+    (s .before .before .before .task .given .1))
+    (part-read (a .image .now) (a .known) (a .structs) _ (c .before .before .before .before .before .before .read-part .ensures) refl
+    (operand-deeper _ _ _ _ _ _
+    (was-operand (operandOf _ _ _ _ _ _)
+    (rw (s .before .before .before .before .before .before .offset-of .ensures) at (s .before .before .before .before .before .read-operand .ensures))
+    (s .before .before .before .task .given .1))) (s .before .behind-head .ensures)) (c .before .before .close-row .ensures)
 
 one-returns-2 : (t : ℕ) → read-one-lts.Need-returns-2 (one-calls t) (one-at t) read-one.Post
-one-returns-2 t c = rw (was-no-operand (operandOf _ _ _ _ _ _) (rw (c .before .before .before .before .before .offset-of .ensures) at (c .before .before .before .before .read-operand .ensures)) (c .before .before .refusal .given .1), c .refused .ensures)
-
-part-read-leaf-requires : (t : ℕ) → read-part-lts.Need-read-leaf-requires (part-calls t) (part-at t) read-part.Post
-part-read-leaf-requires t c κs = rw (c .before .before .before .before .before .offset-of .ensures) at (c .before .before .before .before .if1 .taken)
-
-part-same-length : (t : ℕ) → read-part-lts.Need-same-length (part-calls t) (part-at t) read-part.Post
-part-same-length t c = c .before .before .read-leaf .kept .0
+one-returns-2 t c =
+    rw (
+      was-no-operand (operandOf _ _ _ _ _ _)
+          (rw (c .before .before .before .before .before .offset-of .ensures) at (c .before .before .before .before .read-operand .ensures))
+          (c .before .before .refusal .given .1),
+      c .refused .ensures,
+    )
 
 part-returns : (t : ℕ) → read-part-lts.Need-returns (part-calls t) (part-at t) read-part.Post
-part-returns t c = let s = c .before .before .before .before .before .before .before in c .before .before .read-leaf .ensures ∙ leaf-read _ _ _ _ _ _ _ (rw (s .before .offset-of .ensures) at (c .before .before .before .before .before .before .before .if1 .taken)) (c .before .before .before .before .before .wide .ensures ∙ rw (s .before .offset-of .ensures)) (c .before .before .before .before .if2 .taken)
-
-part-read-node-requires : (t : ℕ) → read-part-lts.Need-read-node-requires (part-calls t) (part-at t) read-part.Post
-part-read-node-requires t c κs = omega (arith, c .before .before .before .before .before .pre)
-
-part-same-length-2 : (t : ℕ) → read-part-lts.Need-same-length-2 (part-calls t) (part-at t) read-part.Post
-part-same-length-2 t c = c .before .before .read-node .kept .0
-
-part-returns-2 : (t : ℕ) → read-part-lts.Need-returns-2 (part-calls t) (part-at t) read-part.Post
-part-returns-2 t c = c .before .before .read-node .ensures
+part-returns t c =
+    c .before .before .short-leaf .ensures ∙ short-read _ _ _ _ _ _
+    (c .before .before .before .before .before .is-short .ensures (c .before .before .before .before .if1 .taken))
 
 pub +read-act+read-let+read-node+read-one+read-part-spec : {M : Type 1} → statement M
 +read-act+read-let+read-node+read-one+read-part-spec =
     close μ-read-act μ-read-let μ-read-node μ-read-one μ-read-part
     (λ t. read-act-lts.spec (act-calls t) (act-at t) read-act.Post
-    (act-deeper-requires t)
-    (λ c κs. search needs)
-    (act-read-part-requires t)
-    (λ c κs. search needs)
-    (act-same-length t)
-    (act-returns t)
-    (act-read-part-requires-2 t)
-    (λ c κs. search needs)
-    (λ c κs. search needs)
-    (act-same-length-2 t)
-    (act-returns-2 t))
+    (λ c κs. omega (arith, c .before .before .pre)) (λ c κs. search needs) (act-read-part-requires t) (λ c κs. search needs)
+    (λ c. c .before .before .before .before .read-part .kept .0) (act-returns t) (act-read-part-requires-2 t) (λ c κs. search needs)
+    (λ c κs. search needs) (act-same-length-2 t) (act-returns-2 t))
     (λ t. read-let-lts.spec (let-calls t) (let-at t) read-let.Post
-    (λ c κs. search needs)
-    (let-deeper-requires t)
-    (let-read-part-requires t)
-    (λ c κs. search needs)
-    (let-same-length t)
-    (let-returns t)
-    (let-write-row-requires t)
-    (let-under-let-requires t)
-    (let-read-part-requires-2 t)
-    (λ c κs. search needs)
-    (λ c κs. search needs)
-    (let-same-length-2 t)
-    (let-returns-2 t))
+    (λ c κs. search needs) (λ c κs. omega (arith, c .before .before .before .before .pre)) (let-read-part-requires t) (λ c κs. search needs)
+    (λ c. c .before .before .before .before .read-part .kept .0) (let-returns t)
+    (λ c κs. sym (c .before .before .is-refusal .ensures) ∙ c .before .if1 .left) (let-under-let-requires t) (let-read-part-requires-2 t)
+    (λ c κs. search needs) (λ c κs. search needs) (let-same-length-2 t) (let-returns-2 t))
     (λ t. read-node-lts.spec (node-calls t) (node-at t) read-node.Post
-    (λ c κs. search needs)
-    (λ c κs. search needs)
-    (λ c. search needs)
-    (λ c κs. search needs)
-    (λ c κs. search needs)
-    (node-returns t)
-    (λ c κs. search needs)
-    (λ c κs. search needs)
-    (node-returns-2 t)
-    (λ c κs. search needs)
-    (λ c. search needs)
-    (λ c κs. search needs)
-    (λ c. search needs)
-    (λ c κs. search needs)
-    (λ c. search needs)
-    (node-read-act-requires t)
-    (λ c. search needs)
-    (node-read-let-requires t)
-    (λ c. search needs)
-    (λ c κs. search needs)
-    (node-read-one-requires t)
-    (λ c. search needs)
-    (λ c κs. search needs)
-    (node-same-length t)
-    (node-returns-3 t)
-    (node-same-length-2 t)
-    (node-returns-4 t)
-    (node-same-length-3 t)
-    (node-returns-5 t)
-    (node-same-length-4 t)
-    (node-returns-6 t)
-    (node-same-length-5 t)
-    (node-returns-7 t)
-    (node-same-length-6 t)
-    (node-returns-8 t)
+    (λ c κs. search needs) (λ c κs. search needs) (λ c. search needs) (λ c κs. search needs) (λ c κs. search needs) (node-returns t)
+    (λ c κs. search needs) (λ c κs. search needs) (node-returns-2 t) (λ c κs. search needs) (λ c. search needs) (λ c κs. search needs)
+    (λ c. search needs) (λ c κs. search needs) (λ c. search needs) (node-read-act-requires t) (λ c. search needs) (node-read-let-requires t)
+    (λ c. search needs) (λ c κs. search needs) (node-read-one-requires t) (λ c. search needs) (λ c κs. search needs)
+    (λ c. c .before .before .read-literal .kept .0) (node-returns-3 t) (λ c. c .before .before .read-variable .kept .0) (node-returns-4 t)
+    (λ c. c .before .before .read-act .kept .0) (node-returns-5 t) (λ c. c .before .before .read-let .kept .0) (node-returns-6 t)
+    (λ c. c .before .before .read-malloc .kept .0) (node-returns-7 t) (λ c. c .before .before .read-one .kept .0) (node-returns-8 t)
     (node-returns-9 t))
     (λ t. read-one-lts.spec (one-calls t) (one-at t) read-one.Post
-    (λ c κs. search needs)
-    (one-read-operand-requires t)
-    (λ c. search needs)
-    (λ c κs. search needs)
-    (one-read-part-requires t)
-    (λ c κs. search needs)
-    (λ c. search needs)
-    (λ c κs. search needs)
-    (one-same-length t)
-    (one-returns t)
+    (λ c κs. search needs) (λ c κs. omega (arith, c .before .before .before .pre)) (λ c. search needs) (λ c κs. search needs)
+    (one-read-part-requires t) (λ c κs. search needs) (λ c. search needs) (λ c κs. search needs)
+    (λ c. c .before .before .close-row .kept .0 ∙ c .before .before .before .before .before .before .read-part .kept .0) (one-returns t)
     (one-returns-2 t))
     (λ t. read-part-lts.spec (part-calls t) (part-at t) read-part.Post
-    (λ c κs. search needs)
-    (λ c. search needs)
-    (λ c κs. search needs)
-    (part-read-leaf-requires t)
-    (part-same-length t)
-    (part-returns t)
-    (part-read-node-requires t)
-    (part-same-length-2 t)
-    (part-returns-2 t))
+    (λ c κs. search needs) (λ c κs. c .before .before .is-short .ensures (c .before .if1 .taken) .bytes-there)
+    (λ c. c .before .before .short-leaf .kept .0) (part-returns t) (λ c κs. omega (arith, c .before .before .before .before .before .pre))
+    (λ c. c .before .before .read-node .kept .0) (λ c. c .before .before .read-node .ensures))

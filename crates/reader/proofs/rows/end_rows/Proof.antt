@@ -1,6 +1,5 @@
 -- `reader::rows::end_rows` tells the refusal, or puts the row that stops. Assumes nothing.
 use native.Mathlib.Omega.{arith}
-use Rattle.reader.specs.Cursors.{placeIn, offsetIn}
 use Rattle.reader.proofs.Cursors.{answer-below, place-below, offset-below, rows-below}
 use mathlib.Core.Path.{sym, _∙_}
 use borrow.Author.Needs.{needs}
@@ -35,19 +34,40 @@ offset-of-requires : tie.Need-offset-of-requires
 offset-of-requires c κs = search needs
 
 add-t16 : tie.Need-add-t16
-add-t16 c = let s = c .before .before .before .before .before .before .before in omega (arith, c .offset-of .ensures, offset-below (s .before .before .before .args .end) (answer-below (s .before .before .before .args .end) (sym (s .before .is-refusal .ensures) ∙ c .before .before .before .before .before .before .before .if1 .left)))
+add-t16 c =
+    let s = c .before .before .before .before .before .before .before in
+    let a = s .before .before .before .args in
+    omega (
+      arith,
+      c .offset-of .ensures,
+      offset-below (a .end)
+          (answer-below (a .end) (sym (s .before .is-refusal .ensures) ∙ c .before .before .before .before .before .before .before .if1 .left)),
+    )
 
 nodes-of-requires : tie.Need-nodes-of-requires
 nodes-of-requires c κs = search needs
 
 add-t18 : tie.Need-add-t18
-add-t18 c = let s = c .before .before .before .before .before .before .before in omega (arith, c .before .before .before .before .before .before .before .rows-of .ensures, rows-below (s .before .before .before .before .args .end))
+add-t18 c =
+    let s = c .before .before .before .before .before .before .before in
+    omega
+    (arith, c .before .before .before .before .before .before .before .rows-of .ensures, rows-below (s .before .before .before .before .args .end))
 
 same-length : tie.Need-same-length
 same-length c = search needs
 
 returns-2 : tie.Need-returns-2
-returns-2 c = let s = c .before .before .before .before .before .before .before in rw (← s .before .before .is-refusal .ensures, s .before .if1 .left, c .before .before .before .before .put-row .ensures, c .before .before .before .before .before .before .head-number .ensures, c .before .before .before .before .before .before .before .rows-of .ensures, c .nodes-of .ensures, c .before .offset-of .ensures)
+returns-2 c =
+    let s = c .before .before .before .before .before .before .before in
+    rw (
+      ← s .before .before .is-refusal .ensures,
+      s .before .if1 .left,
+      c .before .before .before .before .put-row .ensures,
+      c .before .before .before .before .before .before .head-number .ensures,
+      c .before .before .before .before .before .before .before .rows-of .ensures,
+      c .nodes-of .ensures,
+      c .before .offset-of .ensures,
+    )
 
 pub end-rows-spec : {M : Type 1} → statement M
 end-rows-spec =

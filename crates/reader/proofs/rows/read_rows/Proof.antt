@@ -6,10 +6,14 @@ use Rattle.reader.proofs.rows.read_rows.Statement.{statement}
 use Rattle.reader.proofs.rows.read_rows.Tie as tie
 
 returns : tie.Need-returns
-returns c = rows-read (too-long (c .before .before .before .args .image .now) (c .before .before .before .args .known) (c .before .before .before .args .structs) (c .before .before .before .args .at) (c .before .before .before .args .rows .now) (c .if1 .taken))
+returns c =
+    let a = c .before .before .before .args in
+    rows-read (too-long (a .image .now) (a .known) (a .structs) (a .at) (a .rows .now) (c .if1 .taken))
 
 returns-2 : tie.Need-returns-2
-returns-2 c = rows-read (past-end (c .before .before .before .before .args .image .now) (c .before .before .before .before .args .known) (c .before .before .before .before .args .structs) (c .before .before .before .before .args .at) (c .before .before .before .before .args .rows .now) (c .before .if1 .left) (c .if2 .taken))
+returns-2 c =
+    let a = c .before .before .before .before .args in
+    rows-read (past-end (a .image .now) (a .known) (a .structs) (a .at) (a .rows .now) (c .before .if1 .left) (c .if2 .taken))
 
 sub-most-rows : tie.Need-sub-most-rows
 sub-most-rows c = search needs
@@ -18,7 +22,11 @@ most-rows-requires : tie.Need-most-rows-requires
 most-rows-requires c κs = search needs
 
 returns-3 : tie.Need-returns-3
-returns-3 c = rows-read (too-few (c .before .before .before .before .before .before .args .image .now) (c .before .before .before .before .before .before .args .known) (c .before .before .before .before .before .before .args .structs) (c .before .before .before .before .before .before .args .at) (c .before .before .before .before .before .before .args .rows .now) (c .before .before .before .if1 .left) (c .before .before .if2 .left) (rw (c .before .most-rows .ensures) at (c .if3 .taken)))
+returns-3 c =
+    let a = c .before .before .before .before .before .before .args in
+    rows-read
+    (too-few (a .image .now) (a .known) (a .structs) (a .at) (a .rows .now) (c .before .before .before .if1 .left) (c .before .before .if2 .left)
+    (rw (c .before .most-rows .ensures) at (c .if3 .taken)))
 
 around-number-requires : tie.Need-around-number-requires
 around-number-requires c κs = search needs
@@ -45,7 +53,16 @@ same-length : tie.Need-same-length
 same-length c = search needs
 
 returns-4 : tie.Need-returns-4
-returns-4 c = let s = c .before .before .before .before .before .before .before in let u = s .before .before .before .before .before .before .before in rows-read (read-whole (u .before .before .before .args .image .now) (u .before .before .before .args .known) (u .before .before .before .args .structs) (u .before .before .before .args .at) (u .before .before .before .args .rows .now) (u .if1 .left) (s .before .before .before .before .before .before .if2 .left) (rw (s .before .before .before .before .before .most-rows .ensures) at (s .before .before .before .before .if3 .left)) (s .before .before .before .around-number .ensures) (s .before .before .cursor-number .ensures) (c .before .before .before .before .before .before .read-node .ensures) (c .before .before .end-rows .ensures))
+returns-4 c =
+    let s = c .before .before .before .before .before .before .before in
+    let u = s .before .before .before .before .before .before .before in
+    let a = u .before .before .before .args in
+    rows-read
+    (read-whole (a .image .now) (a .known) (a .structs) (a .at) (a .rows .now) (u .if1 .left)
+    (s .before .before .before .before .before .before .if2 .left)
+    (rw (s .before .before .before .before .before .most-rows .ensures) at (s .before .before .before .before .if3 .left))
+    (s .before .before .before .around-number .ensures) (s .before .before .cursor-number .ensures)
+    (c .before .before .before .before .before .before .read-node .ensures) (c .before .before .end-rows .ensures))
 
 pub read-rows-spec : {M : Type 1} → statement M
 read-rows-spec =

@@ -1,8 +1,8 @@
--- `reader::short::number_at` answers the number that the definition reads: one byte below 128 is one. Assumes nothing.
+-- `reader::bytes::number_at` answers the number that the definition reads: one byte below 128 is one. Assumes nothing.
 use Rattle.reader.proofs.OneByte.{one-byte}
 use borrow.Author.Needs.{needs}
-use Rattle.reader.proofs.short.number_at.Statement.{statement}
-use Rattle.reader.proofs.short.number_at.Tie as tie
+use Rattle.reader.proofs.bytes.number_at.Statement.{statement}
+use Rattle.reader.proofs.bytes.number_at.Tie as tie
 
 shared-slice-read-wide : tie.Need-shared-slice-read-wide
 shared-slice-read-wide c = search needs
@@ -14,7 +14,12 @@ add-t9 : tie.Need-add-t9
 add-t9 c = search needs
 
 returns : tie.Need-returns
-returns c = rw (one-byte (c .before .before .before .before .before .args .image .now) (c .before .before .before .before .before .args .at) (c .before .before .before .if1 .taken) (rw (c .before .wide .ensures) at (c .if2 .taken)), c .before .wide .ensures)
+returns c =
+    let a = c .before .before .before .before .before .args in
+    rw (
+      one-byte (a .image .now) (a .at) (c .before .before .before .if1 .taken) (rw (c .before .wide .ensures) at (c .if2 .taken)),
+      c .before .wide .ensures,
+    )
 
 read-limited-requires : tie.Need-read-limited-requires
 read-limited-requires c κs = search needs
