@@ -12,6 +12,7 @@ pub mod Refused
 pub mod Every
 pub mod Changes
 pub mod NoBlock
+pub mod Contexts
 pub mod Counted
 pub mod Limits
 pub mod Substitution

@@ -2,7 +2,6 @@
 pub mod Memory
 pub mod Arms
 pub mod Slow
-pub mod Context
 pub mod Fill
 pub mod Stack
 pub mod Redexes

@@ -33,7 +33,7 @@ use Rattle.machine.specs.Entry.{AsDefined, Stepped}
 use Rattle.machine.proofs.Fill.{fill, fill-none}
 use Rattle.machine.proofs.Stack.{ticks, few-ticks, Waits, bottom, no-lets}
 use Rattle.machine.proofs.Redexes.{Loaded, HintRight}
-use Rattle.machine.proofs.Transitions.{Sim, at-node, Goes, is-done, is-quiet, is-stuck, is-halt, is-step, goes}
+use Rattle.machine.proofs.Transitions.{SimNodes, at-node, Goes, is-done, is-quiet, is-stuck, is-halt, is-step, goes}
 
 -- the number of the first unchecked step, where s steps with first unchecked step f came before those counted by q
 laterFirst : (s f q : ℕ) → ℕ
@@ -92,7 +92,7 @@ record Memory (T : Terms) (R : ℕ) (H : Heap) (ht : Hint) (frames bound : List 
 -- n transitions are enough for what is left
 record Runs (S : Setting) (T : Terms) (ws structs types table : List ℕ) (R n : ℕ) : Type 0 where
   from : {at code h lets x left : ℕ} {e : Expr} {frames bound : List ℕ} (H : Heap) (steps first : ℕ) (ht : Hint) → Memory T R H ht frames bound
-      → Sim table R at code h lets x frames bound e left → left < n
+      → SimNodes table R at code h lets x frames bound e left → left < n
       → Agrees (T .words) ws (drive table structs types T n (state at code h lets x steps first ht) (lent H ws) frames bound) steps first
       (run S (T .limit - steps) H e)
 
@@ -131,7 +131,7 @@ module _ {S : Setting} {T : Terms} {ws structs types : List ℕ} (L : Loaded S T
         → (steps < T .limit
         → r ≡ moved (turn.Goes (state at code h lets x (steps + 1) (firstOf steps first (modeNumber m)) ht′)) (lent H′ ws) frames′ bound′)
         → step S Checked H e ≡ next H′ e′ m → Memory T R H′ ht′ frames′ bound′
-        → Sim table R at code h lets x frames′ bound′ e′ left′ → left′ < n
+        → SimNodes table R at code h lets x frames′ bound′ e′ left′ → left′ < n
         → Agrees (T .words) ws (after r (drive table structs types T n)) steps first (run S l H e)
     unfolding run
     stepping e zero q q₀ q₁ z M′ sim d =
@@ -218,7 +218,7 @@ simulated {S} {T} {H} {e} {ws} {heap} {frames} {bound} {table} {structs} {types}
       words-few = r .words-few;
     } in
     let w : Waits table (height e) 0 0 0 e = record { spans = r .nodes-held; scoped = r .expr-scoped; small = r .expr-small; room = omega arith } in
-    let s : Sim table (height e) 0 0 0 0 0 frames bound (fill 0 [] e) (0 + ticks e) = at-node bottom no-lets w in
+    let s : SimNodes table (height e) 0 0 0 0 0 frames bound (fill 0 [] e) (0 + ticks e) = at-node bottom no-lets w in
     let m : Memory T (height e) H (firstHint T) frames bound = record {
       heap-small = r .heap-small;
       heap-long = r .heap-long;

@@ -16,7 +16,7 @@ use Rattle.calculus.specs.declared.Operation.the-variants.{Let, Acts}
 use Rattle.image.specs.Tabled.{Row, Spans, oneOperation, oneArgument, oneKind}
 use Rattle.image.specs.Shape.{Scoped, SmallOne, SmallExpr, small-one, height}
 use Rattle.machine.proofs.Memory.{Four, SameBelow, four-below, BoundWord, word-other}
-use Rattle.machine.proofs.Context.{Hole, in-one, in-bound, in-left, in-right, under}
+use Rattle.calculus.proofs.Contexts.{Hole, in-one, in-bound, in-left, in-right, under}
 use Rattle.machine.proofs.Fill.{fill}
 
 -- the kind in a node with one part has numbers that fit, and so have the part's

@@ -50,22 +50,22 @@ use Rattle.machine.specs.Values.{secondPart, binding, afterFirst, afterS
 use Rattle.machine.specs.Turns.{transition}
 use Rattle.machine.proofs.Memory.{settled-same, halt-kept, node-whole, Four, framed-below, kept-below}
 use Rattle.machine.proofs.Memory.{four-framed, four-kept, word-same, length-framed, length-kept}
-use Rattle.machine.proofs.Context.{Hole, plugs, under, context, busy-stuck, busy-halt, busy-next}
+use Rattle.calculus.proofs.Contexts.{Hole, plugs, under, context, busy-stuck, busy-halt, busy-next}
 use Rattle.machine.proofs.Fill.{fill, fill-more, fill-bound}
 use Rattle.machine.proofs.Stack.{small-node, small-part, ticks, Waits, Stack, bottom, on-one, on-bound, on-left}
 use Rattle.machine.proofs.Stack.{on-right, on-body, Env, one-let, stack-kept, env-kept, lets-few, env-at, env-small}
 use Rattle.machine.proofs.Redexes.{Matches, m-blocked, m-halts, m-gives, Loaded, HintRight, hint-next}
 use Rattle.machine.proofs.Redexes.{one-matches, act-matches, size-same, found-same, taken-zeros, hint-taken}
 
--- Sim table R at code height lets inside frames bound e left: a machine in such a state holds the expression e, with at most `left`
+-- SimNodes table R at code height lets inside frames bound e left: a machine in such a state holds the expression e, with at most `left`
 -- transitions to a value. There is room for R frames.
-pub data Sim (table : List ℕ) (R : ℕ) : (at code height lets inside : ℕ) → (frames bound : List ℕ) → Expr → (left : ℕ) → Type 0 where
+pub data SimNodes (table : List ℕ) (R : ℕ) : (at code height lets inside : ℕ) → (frames bound : List ℕ) → Expr → (left : ℕ) → Type 0 where
   at-node : {h l i : ℕ} {ρ : List Cell} {K : List Hole} {e : Expr} {frames bound : List ℕ}
       → Stack table R frames h ρ K l → Env bound ρ → Waits table R i (length ρ) h e
-      → Sim table R i 0 h (length ρ) (modeNumber (under K)) frames bound (plugs K (fill 0 ρ e)) (l + ticks e)
+      → SimNodes table R i 0 h (length ρ) (modeNumber (under K)) frames bound (plugs K (fill 0 ρ e)) (l + ticks e)
   at-value : {h l x : ℕ} {ρ : List Cell} {K : List Hole} {c : Cell} {frames bound : List ℕ}
       → Stack table R frames h ρ K l → Env bound ρ → Small (c .kind)
-      → Sim table R (c .value) (packed (c .kind)) h (length ρ) x frames bound (plugs K (lit (c .value) (c .kind))) l
+      → SimNodes table R (c .value) (packed (c .kind)) h (length ρ) x frames bound (plugs K (lit (c .value) (c .kind))) l
 
 less : (n : ℕ) → suc n - 1 ≡ n
 less n = omega arith
@@ -76,7 +76,7 @@ module _ {S : Setting} {T : Terms} {ws structs types : List ℕ} (L : Loaded S T
     is-done : {c : Cell} → r ≡ moved (turns.Ends (outcomeOf (ends.Value c) steps first)) (lent H ws) frames bound → e ≡ lit (c .value) (c .kind)
         → Goes H frames bound steps first ht r e left
     is-quiet : {at code h lets x left′ : ℕ} {frames′ : List ℕ} → r ≡ moved (turns.Goes (state at code h lets x steps first ht)) (lent H ws) frames′ bound
-        → length frames′ ≡ length frames → Sim table R at code h lets x frames′ bound e left′ → left′ < left
+        → length frames′ ≡ length frames → SimNodes table R at code h lets x frames′ bound e left′ → left′ < left
         → Goes H frames bound steps first ht r e left
     is-stuck : {m : Mode} → r ≡ moved (states.stuck (state 0 0 0 0 (modeNumber m) steps first ht)) (lent H ws) frames bound
         → step S Checked H e ≡ stuck m → Goes H frames bound steps first ht r e left
@@ -86,7 +86,7 @@ module _ {S : Setting} {T : Terms} {ws structs types : List ℕ} (L : Loaded S T
         → (T .limit ≤ steps → r ≡ moved (turns.Ends (outcomeOf ends.More steps first)) (lent H ws) frames bound)
         → (steps < T .limit → r ≡ moved (turns.Goes (state at code h lets x (steps + 1) (firstOf steps first (modeNumber m)) ht′)) (lent H′ ws) frames′ bound′)
         → step S Checked H e ≡ next H′ e′ m → SmallHeap H′ → length H′ ≡ length H → HintRight H′ (T .low) ht′
-        → length frames′ ≡ length frames → length bound′ ≡ length bound → Sim table R at code h lets x frames′ bound′ e′ left′ → left′ < left
+        → length frames′ ≡ length frames → length bound′ ≡ length bound → SimNodes table R at code h lets x frames′ bound′ e′ left′ → left′ < left
         → Goes H frames bound steps first ht r e left
 
   module _ (H : Heap) (hs : SmallHeap H) (hl : length H ≡ T .words) where
@@ -479,7 +479,7 @@ module _ {S : Setting} {T : Terms} {ws structs types : List ℕ} (L : Loaded S T
           (omega arith)
 
       -- every transition is one of the expression's
-      pub goes : {at code h lets x : ℕ} {e : Expr} {left : ℕ} → Sim table R at code h lets x frames bound e left
+      pub goes : {at code h lets x : ℕ} {e : Expr} {left : ℕ} → SimNodes table R at code h lets x frames bound e left
           → Goes H frames bound steps first ht (transition table structs types T (lent H ws) frames bound (state at code h lets x steps first ht)) e left
       goes (at-node s v w) = entering s v (w .spans) (w .scoped) (w .small) (w .room)
       goes (at-value {x = x} {c = c} s v k) = handed x c s v k

@@ -25,7 +25,7 @@ use Rattle.reader.proofs.Cursors.{no-refusal, is-refusal}
 use Rattle.reader.proofs.Puts.{row-is, put-behind, behind-then}
 
 -- reading stands at an offset behind i nodes and p rows
-pub record Stands (image : List ℕ) (i p at : ℕ) : Type 0 where
+pub record StandsAt (image : List ℕ) (i p at : ℕ) : Type 0 where
   pub few : i ≤ 2048
   pub passed : i ≤ at
   pub within : at ≤ length image
@@ -52,7 +52,7 @@ module _ (image types : List ℕ) where
       → IntoRows image types t b i p at F r
   told-as {t} {b} {i} {p} {at} {r = r} e x = subst (λ (H : Filled ℕ). IntoRows image types t b i p at H r) (sym e) x
 
-  module _ (depth lets : ℕ) (b : Bool) (t : List ℕ) (i p at : ℕ) (at-node : Stands image i p at) (room : RowRoom image t) (more : i < 2048) where
+  module _ (depth lets : ℕ) (b : Bool) (t : List ℕ) (i p at : ℕ) (at-node : StandsAt image i p at) (room : RowRoom image t) (more : i < 2048) where
     -- a node without parts
     pub leaf-into : (e : Expr) {next : ℕ} (k : Task) (slot datum : ℕ) → nodes e ≡ 1 → at < next → next ≤ length image
         → PartRows types (putRow t p (headNumber k b slot 0 i) datum) (insideMode b) i p e (suc p)

@@ -21,7 +21,7 @@ use Rattle.reader.specs.Cursors.{cursorNumber, aroundNumber}
 use Rattle.reader.specs.Reads.{nodeRows}
 use Rattle.reader.proofs.Cursors.{offset-cursor, nodes-cursor}
 use Rattle.reader.proofs.Ending.{number-ending}
-use Rattle.reader.proofs.Into.{Stands, RowRoom, IntoRows, stopped}
+use Rattle.reader.proofs.Into.{StandsAt, RowRoom, IntoRows, stopped}
 use Rattle.reader.proofs.Operations.{number-into, operation-in}
 
 -- the test for one node too many
@@ -34,7 +34,7 @@ test-into false x y x′ y′ K f g = g refl
 
 module _ (image : List ℕ) (tables : Tables) (short : length image < 274877906944) (types-few : length (tables .types) ≤ 256)
     (structs-few : length (tables .structs) ≤ 256) (small : (n : ℕ) → Small (getD (tables .types) n Int)) where
-  pub node-in : (deep lets : ℕ) (b : Bool) (i p at : ℕ) (t : List ℕ) → lets + deep < 128 → Stands image i p at → RowRoom image t
+  pub node-in : (deep lets : ℕ) (b : Bool) (i p at : ℕ) (t : List ℕ) → lets + deep < 128 → StandsAt image i p at → RowRoom image t
       → IntoRows image (map packed (tables .types)) t b i p at
       (nodeRows image (length (tables .types)) (length (tables .structs)) deep (aroundNumber deep lets b) (cursorNumber at i p) t)
       (readNode image tables deep lets i at)

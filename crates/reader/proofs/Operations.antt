@@ -32,7 +32,7 @@ use Rattle.reader.proofs.Cursors.{lets-around, offset-cursor}
 use Rattle.reader.proofs.Around.{deeper-is, block-is}
 use Rattle.reader.proofs.Puts.{behind-is}
 use Rattle.reader.proofs.Ending.{Ending, ending, ending-none, number-ending, below-ending, target-ending}
-use Rattle.reader.proofs.Into.{Stands, RowRoom, IntoRows, stopped, leaf-into, one-into}
+use Rattle.reader.proofs.Into.{StandsAt, RowRoom, IntoRows, stopped, leaf-into, one-into}
 use Rattle.reader.proofs.Parts.{EachPart, first-stands, act-into, let-into}
 
 -- the kind of a word type, by the packed codes
@@ -74,7 +74,7 @@ module _ (image : List ℕ) (tables : Tables) (types-few : length (tables .types
     (small : (n : ℕ) → Small (getD (tables .types) n Int)) (deep : ℕ)
     (part′ : (around cursor : ℕ) → List ℕ → Filled ℕ) (get : ℕ → ℕ → ℕ → Parsed Expr) (each : EachPart image (map packed (tables .types)) deep part′ get)
     (lets : ℕ) (b : Bool) (low : lets + suc deep < 128) (t : List ℕ) (i p at : ℕ)
-    (at-node : Stands image i p at) (room : RowRoom image t) (more : i < 2048) where
+    (at-node : StandsAt image i p at) (room : RowRoom image t) (more : i < 2048) where
   there : {next : ℕ} → at < next → next ≤ length image → p < wholeRows t
   there l w = let s = room .space (suc i) (omega arith) (omega (arith, at-node .passed)) in omega (arith, s, at-node .low)
 

@@ -19,18 +19,18 @@ use Rattle.reader.specs.Reads.{partThen, rowPut, actRows, letRows}
 use Rattle.reader.proofs.Cursors.{no-refusal, is-refusal, rows-cursor}
 use Rattle.reader.proofs.Around.{deeper-is, under-is}
 use Rattle.reader.proofs.Puts.{row-is, behind-is}
-use Rattle.reader.proofs.Into.{Stands, RowRoom, roomy-kept, IntoRows, into, stopped, told-as, right-into, body-into}
+use Rattle.reader.proofs.Into.{StandsAt, RowRoom, roomy-kept, IntoRows, into, stopped, told-as, right-into, body-into}
 
 -- each part, at most `deep` deep, goes into the rows as it is read
 pub record EachPart (image types : List ℕ) (deep : ℕ) (part : (around cursor : ℕ) → List ℕ → Filled ℕ) (get : ℕ → ℕ → ℕ → Parsed Expr) : Type 0 where
-  pub goes : (lets : ℕ) (b : Bool) (i p at : ℕ) (t : List ℕ) → lets + deep < 128 → Stands image i p at → RowRoom image t
+  pub goes : (lets : ℕ) (b : Bool) (i p at : ℕ) (t : List ℕ) → lets + deep < 128 → StandsAt image i p at → RowRoom image t
       → IntoRows image types t b i p at (part (aroundNumber deep lets b) (cursorNumber at i p) t) (get lets i at)
 
 module _ (image types : List ℕ) (deep : ℕ) (part : (around cursor : ℕ) → List ℕ → Filled ℕ) (get : ℕ → ℕ → ℕ → Parsed Expr)
     (each : EachPart image types deep part get) (lets : ℕ) (b : Bool) (low : lets + suc deep < 128) (t : List ℕ) (i p at : ℕ)
-    (at-node : Stands image i p at) (room : RowRoom image t) (more : i < 2048) where
+    (at-node : StandsAt image i p at) (room : RowRoom image t) (more : i < 2048) where
   -- behind the head of the node
-  pub first-stands : {start : ℕ} → at < start → start ≤ length image → Stands image (suc i) p start
+  pub first-stands : {start : ℕ} → at < start → start ≤ length image → StandsAt image (suc i) p start
   first-stands l w = record { few = omega arith; passed = omega (arith, at-node .passed); within = w; low = omega (arith, at-node .low) }
 
   -- behind a part that was read

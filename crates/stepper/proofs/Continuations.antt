@@ -15,7 +15,7 @@ use Rattle.tables.specs.Rows.{wholeRows, push, fetch, take, apply, join, hold, 
 use Rattle.tables.specs.Parts.{PartRows}
 use Rattle.stepper.specs.Moves.{Standing, standing}
 use Rattle.stepper.proofs.Close.{cellLit, close}
-use Rattle.stepper.proofs.Context.{Hole, in-one, in-bound, in-left, in-right, plugs, under}
+use Rattle.calculus.proofs.Contexts.{Hole, in-one, in-bound, in-left, in-right, plugs, under}
 
 module _ (types rows : List ℕ) (room : ℕ) where
   -- with a value on top of the stack, the rows from q on do what the context does with that value; m is the mode there

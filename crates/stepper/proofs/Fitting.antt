@@ -19,7 +19,7 @@ use Rattle.tables.specs.Rows.{datumAt, Work, push, fetch, take, apply, join, ho
 use Rattle.tables.specs.Parts.{PartRows, part-lit, part-var, part-malloc, part-bind, part-one, part-two}
 use Rattle.stepper.specs.Moves.{Standing, standing, nought, Move, ended, stays, halting, makes, quiet, redexMove, standingMove}
 use Rattle.stepper.proofs.Close.{close, close-var}
-use Rattle.stepper.proofs.Context.{Hole, plugs}
+use Rattle.calculus.proofs.Contexts.{Hole, plugs}
 use Rattle.stepper.proofs.Continuations.{Kont, k-end, k-one, k-left, k-right, k-hold, k-drop, Sim, begin, return}
 use Rattle.stepper.proofs.Advances.{rowsOf}
 

@@ -1,6 +1,5 @@
 -- What the functions rest on, and that the machine over rows runs as the definition says.
 pub mod Close
-pub mod Context
 pub mod Continuations
 pub mod Advances
 pub mod Others

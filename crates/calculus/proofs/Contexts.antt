@@ -5,11 +5,11 @@ use Rattle.cells.specs.Heap.{Heap}
 use Rattle.cells.specs.declared.Mode.{Mode}
 use Rattle.cells.specs.declared.Mode.the-variants.{Checked}
 use Rattle.cells.specs.declared.Cell.{Cell}
 use Rattle.calculus.specs.Setting.{Setting}
-use Rattle.calculus.specs.Expr.{Expr, lit, bind, one, two, act, One, inside}
-use Rattle.calculus.specs.declared.Act.{Act}
+use Rattle.calculus.specs.Expr.{Expr, lit, bind, one, two, One, act, inside}
 use Rattle.calculus.specs.Steps.{Step, done, stuck, halt, next, step, frame}
+use Rattle.calculus.specs.declared.Act.{Act}
 use Rattle.calculus.specs.declared.Halt.{Halt}
 
 -- a node with a hole for the part that is evaluated, and contexts, the innermost node first
 pub data Hole : Type 0 where
