@@ -3,6 +3,7 @@
 use Prim.Native.Nat.{ℕ, zero, suc, _+_, _≤_, _<_}
 use native.Mathlib.Decide.{ℕ-discrete}
 use mathlib.Core.Path.{_≡_, refl, ap, _∙_}
+use mathlib.Core.Logic.{_⊎_, inl, inr}
 use mathlib.Core.Bool.{Bool, true, false}
 use lib.Dec.{eqb, ltb}
 use lib.ListN.{length}
@@ -114,21 +115,30 @@ change-length nothing = refl
 change-length {H} (replaced a c q) = length-update H a c
 change-length {S} {H} (taken κ {a} q) = length-zeroed S κ (size S κ) a 0 H
 
--- A defined word of it stays defined.
-pub change-defined : {S : Setting} {H H′ : Heap} → Change S H H′ → (b : ℕ) (c : Cell) → look H b ≡ Holds c
-    → (c′ : Cell) × (look H′ b ≡ Holds c′)
-change-defined nothing b c h = (c, h)
-change-defined {H} (replaced a d q) b c h = go (ℕ-discrete b a)
+-- A defined word of it is the same, unless it is the one replaced.
+pub change-same : {S : Setting} {H H′ : Heap} → Change S H H′ → (b : ℕ) (c : Cell) → look H b ≡ Holds c
+    → (look H′ b ≡ Holds c) ⊎ ((d : Cell) × (H′ ≡ update H b d))
+change-same nothing b c h = inl h
+change-same {H} (replaced a d q) b c h = go (ℕ-discrete b a)
   where
-    go : Dec (b ≡ a) → (c′ : Cell) × (look (update H a d) b ≡ Holds c′)
-    go (yes e) = let (l, m) = look-inside H a q in (d, rw e (look-same H a d l m))
-    go (no n) = (c, look-other H a b d n ∙ h)
-change-defined {S} {H} (taken κ {a} q) b c h = (c, zeroed-other S κ (size S κ) a 0 H b outside ∙ h)
+    go : Dec (b ≡ a) → (look (update H a d) b ≡ Holds c) ⊎ ((d′ : Cell) × (update H a d ≡ update H b d′))
+    go (yes e) = inr (d, rw e)
+    go (no n) = inl (look-other H a b d n ∙ h)
+change-same {S} {H} (taken κ {a} q) b c h = inl (zeroed-other S κ (size S κ) a 0 H b outside ∙ h)
   where
     outside : a ≤ b → b < a + size S κ → ⊥
     outside l m =
         let f : undefined (look H b) ≡ false = rw h in
         refuted f (as-true (lowest (λ b. undefined (look H b)) (size S κ) (S .high) (S .low) a q .run .each b l m))
+
+-- It stays defined.
+pub change-defined : {S : Setting} {H H′ : Heap} → Change S H H′ → (b : ℕ) (c : Cell) → look H b ≡ Holds c
+    → (c′ : Cell) × (look H′ b ≡ Holds c′)
+change-defined {S} {H} {H′} k b c h = go (change-same k b c h)
+  where
+    go : (look H′ b ≡ Holds c) ⊎ ((d : Cell) × (H′ ≡ update H b d)) → (c′ : Cell) × (look H′ b ≡ Holds c′)
+    go (inl e) = (c, e)
+    go (inr (d, e)) = let (l, m) = look-inside H b h in (d, rw e (look-same H b d l m))
 
 -- The step's heap is as long as H.
 abbrev pub Long : Heap → Step → Type 0

@@ -103,7 +103,7 @@ right-stepped {image} {ws} {limit} (runs {c} {next} e t) o q =
     let n : Counts (operators (c .expr)) (contentRun ws limit c) = counted (settingIn ws c) limit (heapIn ws c) (c .expr) in
     let l : Allowed limit (contentRun ws limit c) = allowed (settingIn ws c) limit (heapIn ws c) (c .expr) in
     subst (λ (o : Outcome). StepsCounted image ws limit o) p
-    (record { content = c; next = next; reads = e; few = n .few; allowed = l .most; all = n .all })
+    (record { content = c; next = next; reads = e; few = n .few; all = n .all; left = n .left; allowed = l .most; spent = l .spent })
 
 -- "If a run ends with Value, its steps equal the count of nodes of codes 2 to 9; no run takes more."
 pub steps-counted : (image ws : List ℕ) (limit : ℕ) (o : Outcome) → answered image ws limit .answer ≡ Ran o → StepsCounted image ws limit o

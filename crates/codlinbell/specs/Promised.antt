@@ -1,5 +1,5 @@
 -- What is promised of the answer to an image, from bytes: which of three answers it is, and what holds of a run.
-use Prim.Native.Nat.{ℕ, _≤_}
+use Prim.Native.Nat.{ℕ, _≤_, _<_}
 use mathlib.Core.Path.{_≡_}
 use mathlib.Core.List.{List, []}
 use Rattle.cells.specs.Heap.{Heap}
@@ -15,7 +15,7 @@ use Rattle.calculus.specs.Run.{run}
 use Rattle.calculus.specs.FirstFault.{FirstFault}
 use Rattle.calculus.specs.GoodEnd.{GoodEnd}
 use Rattle.calculus.specs.declared.Fault.{Fault}
-use Rattle.calculus.specs.declared.End.the-variants.{Value}
+use Rattle.calculus.specs.declared.End.the-variants.{Value, More}
 use Rattle.calculus.specs.declared.Outcome.{Outcome}
 use Rattle.image.specs.Content.{Content, settingOf, heapOf}
 use Rattle.image.specs.Parsing as reading
@@ -60,8 +60,10 @@ pub record StepsCounted (image ws : List ℕ) (limit : ℕ) (o : Outcome) : Type
   pub next : ℕ
   pub reads : readImage (heapWords ws) image ≡ reading.got content next
   pub few : o .steps ≤ operators (content .expr)
-  pub allowed : o .steps ≤ limit
   pub all : (c : Cell) → o .end ≡ Value c → o .steps ≡ operators (content .expr)
+  pub left : o .end ≡ More → o .steps < operators (content .expr)
+  pub allowed : o .steps ≤ limit
+  pub spent : o .end ≡ More → o .steps ≡ limit
 
 -- A reading is the number of a Value that a run ended with, and of nothing else.
 pub record FromValue (a : Answer) (n : ℕ) : Type 0 where
