@@ -1,4 +1,4 @@
--- To be believed: when the judge's answer is the definition's, and what its contract says. The models below stand in that contract only to
+-- Models of the code: when the judge's answer is the definition's, and what its contract says. The models below stand in that contract only to
 -- say what the code leaves in the lent lists; that they mean the definitions is proved.
 pub mod Premises
 pub mod Script

@@ -1,4 +1,4 @@
--- To be believed: what the contract of `run` says of a script, and of which memory and terms.
+-- Models of the code: what the contract of `run` says of a script, and of which memory and terms.
 pub mod Ready
 pub mod Entry
 -- Models of the code: they settle every number of the answer and of the lent memory; what is said of a script rests on none.
