@@ -58,7 +58,8 @@ module _ (rows structs types : List ℕ) (T : StepTerms) where
 
   -- at most so many steps, and the end
   unfoldable pub drives : ℕ → StepState → (ws stack bound : List ℕ) → RunEnd
-  drives zero s ws stack bound = afterStep (advanced (wholeRows rows) s ws stack bound) (λ s ws stack bound. runEnd (outcomeOf Stuck (s .steps) (s .first)) ws stack bound)
+  drives zero s ws stack bound = afterStep (advanced (wholeRows rows) s ws stack bound) (λ s ws stack bound. runEnd (outcomeOf Stuck (s .steps)
+      (s .first)) ws stack bound)
   drives (suc n) s ws stack bound = afterStep (advanced (wholeRows rows) s ws stack bound) (drives n)
 
   -- from the start

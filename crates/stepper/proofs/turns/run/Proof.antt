@@ -1,4 +1,5 @@
--- `stepper::turns::run` advances from step to step, as `stepRun` does. The loop's invariant is `Driving`: what is left to be done gives what the whole gives. The measure is how many steps the limit leaves. Assumes nothing.
+-- `stepper::turns::run` advances from step to step, as `stepRun` does. The loop's invariant is `Driving`: what is left to be done gives
+-- what the whole gives. The measure is how many steps the limit leaves. Assumes nothing.
 use Prim.Native.Nat.{ℕ, zero, suc, _-_, _^_, _<_}
 use mathlib.Core.List.{List}
 use mathlib.Core.Path.{_≡_, refl, sym, _∙_, ap}
@@ -29,7 +30,9 @@ record Driving (heap₀ stack₀ bound₀ rows structs types : List ℕ) (T : St
   narrow : T .limit < 2 ^ 64
   short : wholeRows rows < 2 ^ 62
 
-module _ {heap₀ stack₀ bound₀ rows structs types : List ℕ} {T : StepTerms} {heap stack bound : List ℕ} {s : StepState} (m : Driving heap₀ stack₀ bound₀ rows structs types T heap stack bound s) {heap′ stack′ bound′ : List ℕ} {r : StepTurn} (e : turnedTo r heap′ stack′ bound′ ≡ advanced rows structs types T (wholeRows rows) s heap stack bound) where
+module _ {heap₀ stack₀ bound₀ rows structs types : List ℕ} {T : StepTerms} {heap stack bound : List ℕ} {s : StepState}
+    (m : Driving heap₀ stack₀ bound₀ rows structs types T heap stack bound s) {heap′ stack′ bound′ : List ℕ} {r : StepTurn}
+    (e : turnedTo r heap′ stack′ bound′ ≡ advanced rows structs types T (wholeRows rows) s heap stack bound) where
   -- what the rows up to the next step came to, and then the rest
   drives-ended : {o : Outcome} (n : ℕ) → r ≡ Ends o → drives rows structs types T n s heap stack bound ≡ runEnd o heap′ stack′ bound′
   unfolding drives
