@@ -62,7 +62,8 @@ module _ {heap₀ stack₀ bound₀ rows structs types : List ℕ} {T : StepTerm
       }
 
 abbrev Inv-loop : tie.InvT-loop
-Inv-loop heap₀ stack₀ bound₀ rows structs types terms now₀ left₀ heap stack bound now left = Going heap₀ stack₀ bound₀ rows structs types terms now₀ heap stack bound now left
+Inv-loop heap₀ stack₀ bound₀ rows structs types terms now₀ left₀ heap stack bound now left =
+    Going heap₀ stack₀ bound₀ rows structs types terms now₀ heap stack bound now left
 
 abbrev μ-loop : tie.MeasureT-loop
 μ-loop heap₀ stack₀ bound₀ rows structs types terms now₀ left₀ heap stack bound now left = left
