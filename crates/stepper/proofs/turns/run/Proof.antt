@@ -81,7 +81,7 @@ module _ {heap₀ stack₀ bound₀ rows structs types : List ℕ} {T : StepTerm
       }
 
 start : {heap stack bound rows structs types : List ℕ} {T : StepTerms} → T .limit < 2 ^ 64 → wholeRows rows < 2 ^ 62
-    → Driving heap stack bound rows structs types T heap stack bound (startState rows structs types T)
+    → Driving heap stack bound rows structs types T heap stack bound (startState T)
 unfolding stepRun
 start {T = T} l h =
     let z : T .limit - 0 ≡ T .limit = omega arith in
@@ -93,8 +93,11 @@ Inv-loop heap₀ stack₀ bound₀ rows structs types terms s₀ heap stack boun
 abbrev μ-loop : tie.MeasureT-loop
 μ-loop heap₀ stack₀ bound₀ rows structs types terms s₀ heap stack bound s = terms .limit - s .steps
 
+at-start-requires : tie.Need-at-start-requires Inv-loop μ-loop
+at-start-requires c κs = search needs
+
 loop-holds : tie.Need-loop-holds Inv-loop μ-loop
-loop-holds c = start (omega arith) (omega arith)
+loop-holds c = rw (c .at-start .ensures) (start (omega arith) (omega arith))
 
 advance-requires : tie.Need-advance-requires Inv-loop μ-loop
 advance-requires c κs = search needs
@@ -144,6 +147,7 @@ run-spec =
     (tie.spec
     Inv-loop
     μ-loop
+    at-start-requires
     loop-holds
     advance-requires
     enum-known-next
