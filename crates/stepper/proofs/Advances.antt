@@ -20,7 +20,8 @@ use Rattle.tables.specs.Rows.{wholeRows, Work, push, fetch, take, apply, join, 
 use Rattle.tables.specs.Parts.{PartRows, part-lit, part-var, part-malloc, part-bind, part-one, part-two, HoldsExpr}
 use Rattle.tables.proofs.Laid.{forward}
 use Rattle.tables.proofs.Placed.{row-inside}
-use Rattle.stepper.specs.Moves.{Standing, standing, Move, ended, stays, halting, makes, quiet, redexMove, workMove, rowMove, pastMove, advance, moveAtLimit, moveOnward, runRows}
+use Rattle.stepper.specs.Moves.{Standing, standing, Move, ended, stays, halting, makes, quiet, redexMove, workMove, rowMove, pastMove, advance}
+use Rattle.stepper.specs.Moves.{moveAtLimit, moveOnward, runRows}
 use Rattle.stepper.proofs.Close.{cellLit, close, close-var, close-more, close-scoped}
 use Rattle.calculus.proofs.Contexts.{Hole, in-one, in-bound, in-left, in-right, plugs, under, Busy, busy-stuck, busy-halt, busy-next, carry, context}
 use Rattle.stepper.proofs.Continuations.{Kont, k-end, k-one, k-left, k-right, k-hold, k-drop, Sim, begin, return, kont-mode}

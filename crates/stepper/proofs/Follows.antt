@@ -40,7 +40,8 @@ use Rattle.stepper.specs.declared.StepState.{StepState}
 use Rattle.stepper.specs.declared.StepTerms.{StepTerms}
 use Rattle.stepper.specs.declared.StepTurn.the-variants.{Goes, Steps, Ends}
 use Rattle.stepper.specs.States.{Changed, Turned, turnedTo, stateOf, oneMore, firstBy}
-use Rattle.stepper.specs.Stack.{pushed, fetched, allotted, applied, joinedRow, boundNext, unboundNext, stoppedAt, onStackOf, onHeapOf, onBoundOf, besideBound, taskTurn}
+use Rattle.stepper.specs.Stack.{pushed, fetched, allotted, applied, joinedRow, boundNext, unboundNext, stoppedAt, onStackOf, onHeapOf, onBoundOf}
+use Rattle.stepper.specs.Stack.{besideBound, taskTurn}
 use Rattle.stepper.specs.Turns.{rowTurn}
 use Rattle.stepper.proofs.Advances.{rowsOf}
 use Rattle.stepper.proofs.Listed.{TwoNumbers, Listed, listed-none, listed-more, listed-put, listed-at, listed-small}
@@ -109,8 +110,10 @@ drop-follows S T ws rows stack bound H steps first ht b p v c st t (listed-more 
     refl
     (record { top = t; bounds = e; slow = omega arith; within = i })
 
-module _ {S : Setting} {T : StepTerms} {ws structs types : List ℕ} (L : OnTerms S T ws structs types) (rows : List ℕ) (room : ℕ) (short : wholeRows rows < 2 ^ 62)
-    (H : Heap) (hs : SmallHeap H) (hl : length H ≡ T .words) (stack bound : List ℕ) (stack-room : 2 * room ≤ length stack) (bound-room : 2 * room ≤ length bound)
+module _ {S : Setting} {T : StepTerms} {ws structs types : List ℕ} (L : OnTerms S T ws structs types) (rows : List ℕ) (room : ℕ)
+    (short : wholeRows rows < 2 ^ 62)
+    (H : Heap) (hs : SmallHeap H) (hl : length H ≡ T .words) (stack bound : List ℕ) (stack-room : 2 * room ≤ length stack)
+    (bound-room : 2 * room ≤ length bound)
     (steps first : ℕ) (ht : StepHint) (hr : HintHolds H (T .low) ht) (b : Bool) (p : ℕ) (ρ : List Cell) (bounds : Listed bound ρ) (slow : steps ≤ p) where
   abbrev Goal : Turned → Move → Type 0
   Goal = Follows T ws rows H (length stack) (length bound) steps first ht

@@ -31,7 +31,8 @@ use Rattle.calculus.specs.declared.Halt.{Halt}
 use Rattle.calculus.specs.declared.Halt.the-variants.{Null, Bounds}
 use Rattle.tables.specs.Kinds.{typeCodeAt, fieldCountAt, fieldTypeAt, codeChecked, wordCode, HoldsSetting}
 use Rattle.tables.specs.Rows.{typeKind}
-use Rattle.tables.proofs.Coded.{Coded, coded-int, coded-word, coded-struct, coded-array, coded-kind, tag-kind, number-kind, checked-kind, array-kind, empty-kind, fallen-kind, fallen-small}
+use Rattle.tables.proofs.Coded.{Coded, coded-int, coded-word, coded-struct, coded-array, coded-kind, tag-kind, number-kind, checked-kind, array-kind}
+use Rattle.tables.proofs.Coded.{empty-kind, fallen-kind, fallen-small}
 use Rattle.tables.proofs.Held.{field-code, field-small, type-kind, type-exact}
 use Rattle.tables.proofs.Operands.{oneTask, OneOperands}
 use Rattle.stepper.specs.declared.StepState.{StepState}
@@ -101,7 +102,8 @@ pub record OnTerms (S : Setting) (T : StepTerms) (ws structs types : List ℕ) :
   pub heap-room : 2 * T .words ≤ length ws
   pub words-few : T .words ≤ 4096
 
-module _ {S : Setting} {T : StepTerms} {ws structs types : List ℕ} (L : OnTerms S T ws structs types) (H : Heap) (s : SmallHeap H) (long : length H ≡ T .words) where
+module _ {S : Setting} {T : StepTerms} {ws structs types : List ℕ} (L : OnTerms S T ws structs types) (H : Heap) (s : SmallHeap H)
+    (long : length H ≡ T .words) where
   -- ---- a node that gives a value and leaves the heap as it is
   gives-on : (c : Cell) → Small (c .kind) → GivesAs H ws (lent H ws) (Gives (c .value) (packed (c .kind))) (gives H (c .value) (c .kind))
   gives-on c k = as-gives {c = c} refl (heap-stays s) k

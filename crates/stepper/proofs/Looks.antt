@@ -13,7 +13,8 @@ use Rattle.stepper.specs.Stack.{taskTurn}
 use Rattle.stepper.specs.Turns.{rowTurn}
 
 -- What the task, with its state, its slot and its datum, comes to, the row does.
-pub row-turned : (rows structs types ws stack bound : List ℕ) (T : StepTerms) (s : StepState) {s′ : StepState} {head datum slot : ℕ} {inside : Bool} {task : Task} {x : Turned}
+pub row-turned : (rows structs types ws stack bound : List ℕ) (T : StepTerms) (s : StepState) {s′ : StepState} {head datum slot : ℕ} {inside : Bool}
+    {task : Task} {x : Turned}
     → head ≡ headAt rows (s .row) → datum ≡ datumAt rows (s .row) → slot ≡ slotIn head → inside ≡ insideIn head → s′ ≡ looked s inside
     → task ≡ taskIn head → x ≡ taskTurn structs types T ws stack bound s′ task slot datum → x ≡ rowTurn rows structs types T ws stack bound s
 unfolding rowTurn

@@ -37,7 +37,8 @@ pub record Lends (T : StepTerms) (room : ℕ) (H : Heap) (ht : StepHint) (high l
   pub stack-room : 2 * room ≤ high
   pub bound-room : 2 * room ≤ lets
 
-module _ {S : Setting} {T : StepTerms} {ws structs types : List ℕ} (L : OnTerms S T ws structs types) (rows : List ℕ) (room : ℕ) (short : wholeRows rows < 2 ^ 62)
+module _ {S : Setting} {T : StepTerms} {ws structs types : List ℕ} (L : OnTerms S T ws structs types) (rows : List ℕ) (room : ℕ)
+    (short : wholeRows rows < 2 ^ 62)
     (H : Heap) (steps first : ℕ) (ht : StepHint) where
   -- one row
   row-follows : {p v c : ℕ} {st ρ : List Cell} {e : Expr} (stack bound : List ℕ) (x : Bool) → Lends T room H ht (length stack) (length bound)
@@ -55,13 +56,15 @@ module _ {S : Setting} {T : StepTerms} {ws structs types : List ℕ} (L : OnTerm
   past-follows : {r : Turned} {m : Move} (high lets : ℕ) (go : StepState → (ws stack bound : List ℕ) → Turned) (go′ : Standing → Move)
       → ((p v c : ℕ) (st ρ : List Cell) (x : Bool) (stack bound : List ℕ) → m ≡ quiet (standing p st ρ) → length stack ≡ high → length bound ≡ lets
       → Stands rows stack bound steps p v c st ρ
-      → Follows T ws rows H high lets steps first ht (go (stateOf p v c (length st) (length ρ) x steps first ht) (lent H ws) stack bound) (go′ (standing p st ρ)))
+      → Follows T ws rows H high lets steps first ht (go (stateOf p v c (length st) (length ρ) x steps first ht) (lent H ws) stack bound)
+      (go′ (standing p st ρ)))
       → Follows T ws rows H high lets steps first ht r m → Follows T ws rows H high lets steps first ht (afterQuiet r go) (pastMove m go′)
   past-follows high lets go go′ next (f-ended {c = c} {stack = stack} {bound = bound} q) = f-ended {c = c} {stack = stack} {bound = bound} (rw q)
   past-follows high lets go go′ next (f-stays b {stack = stack} {bound = bound} q) = f-stays b {stack = stack} {bound = bound} (rw q)
   past-follows high lets go go′ next (f-halting {h = h} b {stack = stack} {bound = bound} q₀ q₁) =
       f-halting {h = h} b {stack = stack} {bound = bound} (λ l. rw (q₀ l)) (λ l. rw (q₁ l))
-  past-follows high lets go go′ next (f-makes b {x = x} {p = p} {v = v} {c = c} {st = st} {ρ = ρ} {H′ = H′} {ht′ = ht′} {stack = stack} {bound = bound} {stack′ = stack′} {bound′ = bound′} q₀ q₁ n k lh ll s) =
+  past-follows high lets go go′ next (f-makes b {x = x} {p = p} {v = v} {c = c} {st = st} {ρ = ρ} {H′ = H′} {ht′ = ht′} {stack = stack} {bound = bound}
+      {stack′ = stack′} {bound′ = bound′} q₀ q₁ n k lh ll s) =
       f-makes b {x = x} {p = p} {v = v} {c = c} {st = st} {ρ = ρ} {H′ = H′} {ht′ = ht′} {stack = stack} {bound = bound} {stack′ = stack′} {bound′ = bound′}
       (λ l. rw (q₀ l)) (λ l. rw (q₁ l)) n k lh ll s
   past-follows high lets go go′ next (f-quiet {x = x} {p = p} {v = v} {c = c} {st = st} {ρ = ρ} {stack′ = stack} {bound′ = bound} q lh ll s) =

@@ -137,7 +137,8 @@ module _ (rows structs types : List ℕ) (T : StepTerms) where
   on-past (Ends x) ws stack bound go next o = o
 
   -- up to and including the next step
-  pub on-advanced : (fuel : ℕ) (s : StepState) (ws stack bound : List ℕ) → Onward (T .limit) (s .steps) (advanced rows structs types T fuel s ws stack bound .turn)
+  pub on-advanced : (fuel : ℕ) (s : StepState) (ws stack bound : List ℕ) → Onward (T .limit) (s .steps)
+      (advanced rows structs types T fuel s ws stack bound .turn)
   unfolding advanced
   on-advanced zero s ws stack bound = on-row ws stack bound s
   on-advanced (suc fuel) s ws stack bound =

@@ -83,7 +83,8 @@ step-first x s f b r l a =
       heap-long = a .heap-long;
     }
 
-module _ {S : Setting} {T : StepTerms} {ws structs types : List ℕ} (L : OnTerms S T ws structs types) (rows : List ℕ) (room : ℕ) (short : wholeRows rows < 2 ^ 62) where
+module _ {S : Setting} {T : StepTerms} {ws structs types : List ℕ} (L : OnTerms S T ws structs types) (rows : List ℕ) (room : ℕ)
+    (short : wholeRows rows < 2 ^ 62) where
   -- from such a state the code ends as the definition's run does
   record Runs (n : ℕ) : Type 0 where
     from : (p v c : ℕ) (st ρ : List Cell) (e : Expr) (stack bound : List ℕ) (x : Bool) (H : Heap) (steps first : ℕ) (ht : StepHint)
@@ -117,7 +118,8 @@ module _ {S : Setting} {T : StepTerms} {ws structs types : List ℕ} (L : OnTerm
     onwards n high lets e ih rs rb (f-halting b q₀ q₁) m-halting =
         let k : oneMore steps ≡ steps + 1 = omega arith in
         rw (q₁ (omega arith)) (record { outcome-same = rw (first-now steps first b few, k); heap-same = refl; heap-long = long })
-    onwards {r} n high lets e ih rs rb (f-makes b {x = x} {p = p} {v = v} {c = c} {st = st} {ρ = ρ} {H′ = H′} {ht′ = ht′} {stack′ = stack′} {bound′ = bound′} q₀ q₁ h k lh ll s) (m-makes {e = e′} sim) =
+    onwards {r} n high lets e ih rs rb (f-makes b {x = x} {p = p} {v = v} {c = c} {st = st} {ρ = ρ} {H′ = H′} {ht′ = ht′} {stack′ = stack′}
+        {bound′ = bound′} q₀ q₁ h k lh ll s) (m-makes {e = e′} sim) =
         let one : oneMore steps ≡ suc steps = omega arith in
         let q : r ≡ turnedTo (Steps (stateOf p v c (length st) (length ρ) x (suc steps) (firstBy steps first b) ht′)) (lent H′ ws) stack′ bound′ =
         q₁ (omega arith)

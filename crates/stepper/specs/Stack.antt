@@ -13,7 +13,8 @@ use Rattle.stepper.specs.declared.StepState.{StepState}
 use Rattle.stepper.specs.declared.StepTerms.{StepTerms}
 use Rattle.stepper.specs.declared.StepTurn.{StepTurn}
 use Rattle.stepper.specs.declared.StepTurn.the-variants.{Goes, Steps}
-use Rattle.stepper.specs.States.{Changed, PlacedOn, Turned, changed, placedOn, turnedTo, topped, resized, counting, endsMore, endsStuck, endsValue, settledBy, settledOn}
+use Rattle.stepper.specs.States.{Changed, PlacedOn, Turned, changed, placedOn, turnedTo, topped, resized, counting, endsMore, endsStuck, endsValue}
+use Rattle.stepper.specs.States.{settledBy, settledOn}
 use Rattle.stepper.specs.Yields.{oneGives, actGives}
 use Rattle.stepper.specs.Malloc.{roomGives}
 

@@ -43,6 +43,10 @@ stepThen (Ends o) ws stack bound go = runEnd o ws stack bound
 abbrev pub afterStep : Turned → (StepState → (ws stack bound : List ℕ) → RunEnd) → RunEnd
 afterStep m go = stepThen (m .turn) (m .heap) (m .stack) (m .bound) go
 
+-- where a run starts
+abbrev pub startState : StepTerms → StepState
+startState T = stateOf 0 0 0 0 0 false 0 0 (startHint T)
+
 module _ (rows structs types : List ℕ) (T : StepTerms) where
   -- one row
   unfoldable pub rowTurn : (ws stack bound : List ℕ) → StepState → Turned
@@ -58,12 +62,10 @@ module _ (rows structs types : List ℕ) (T : StepTerms) where
 
   -- at most so many steps, and the end
   unfoldable pub drives : ℕ → StepState → (ws stack bound : List ℕ) → RunEnd
-  drives zero s ws stack bound = afterStep (advanced (wholeRows rows) s ws stack bound) (λ s ws stack bound. runEnd (outcomeOf Stuck (s .steps) (s .first)) ws stack bound)
+  drives zero s ws stack bound = afterStep (advanced (wholeRows rows) s ws stack bound) (λ s ws stack bound. runEnd (outcomeOf Stuck (s .steps)
+      (s .first)) ws stack bound)
   drives (suc n) s ws stack bound = afterStep (advanced (wholeRows rows) s ws stack bound) (drives n)
 
   -- from the start
-  abbrev pub startState : StepState
-  startState = stateOf 0 0 0 0 0 false 0 0 (startHint T)
-
   unfoldable pub stepRun : (ws stack bound : List ℕ) → RunEnd
-  stepRun ws stack bound = drives (T .limit) startState ws stack bound
+  stepRun ws stack bound = drives (T .limit) (startState T) ws stack bound

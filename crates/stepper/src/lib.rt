@@ -55,4 +55,5 @@ mod turns;
 mod yields;
 
 pub use turns::advance;
+pub use turns::at_start;
 pub use turns::run;

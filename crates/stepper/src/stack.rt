@@ -106,10 +106,10 @@ pub fn join(heap: &mut [u64], stack: &[u64], terms: StepTerms, s: StepState, o: 
     if height < 2 {
         return stuck(s);
     }
-    let below = height - 1;
-    let value = value_at(stack, below);
-    let code = code_at(stack, below);
-    act(heap, terms, sized(s, below, s.lets), o, value, code)
+    let under = height - 1;
+    let value = value_at(stack, under);
+    let code = code_at(stack, under);
+    act(heap, terms, sized(s, under, s.lets), o, value, code)
 }
 
 // The value on top is bound, a step, and the one below it is on top.

@@ -1,7 +1,7 @@
 // A row, the rows up to and including the next step, and the run.
 ghost use mathlib.Core.Path.{_≡_};
 ghost use Rattle.tables.specs.Rows.{wholeRows};
-ghost use Rattle.stepper.specs.Turns.{rowTurn, advanced};
+ghost use Rattle.stepper.specs.Turns.{rowTurn, advanced, startState};
 ghost use Rattle.stepper.specs.Entry.{StepRan};
 ghost use Rattle.stepper.specs.States.{turnedTo};
 use crate::StepHint;
@@ -39,20 +39,7 @@ pub fn run(
 ) -> Outcome
     ensures { λ r. ⌜ StepRan (now (rows .entry)) (now (structs .entry)) (now (types .entry)) terms (now (heap .entry)) (now (stack .entry)) (now (bound .entry)) r (now (heap .exit)) (now (stack .exit)) (now (bound .exit)) ⌝ }
 {
-    let mut s = StepState {
-        row: 0,
-        value: 0,
-        code: 0,
-        height: 0,
-        lets: 0,
-        inside: false,
-        steps: 0,
-        first: 0,
-        hint: StepHint {
-            size: 0,
-            from: terms.low,
-        },
-    };
+    let mut s = at_start(terms);
     loop {
         match advance(heap, stack, bound, rows, structs, types, terms, s) {
             StepTurn::Steps(next) => {
@@ -70,6 +57,26 @@ pub fn run(
                 return outcome;
             }
         }
+    }
+}
+
+// Where a run starts.
+pub fn at_start(terms: StepTerms) -> StepState
+    ensures { λ r. ⌜ r ≡ startState terms ⌝ }
+{
+    StepState {
+        row: 0,
+        value: 0,
+        code: 0,
+        height: 0,
+        lets: 0,
+        inside: false,
+        steps: 0,
+        first: 0,
+        hint: StepHint {
+            size: 0,
+            from: terms.low,
+        },
     }
 }
 

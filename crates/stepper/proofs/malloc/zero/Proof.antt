@@ -1,4 +1,5 @@
--- `stepper::malloc::zero` leaves zeros at the words that a pointer's target covers. The loop's invariant: what is left to be done gives what the whole gives. The measure is how many words are left. Assumes nothing.
+-- `stepper::malloc::zero` leaves zeros at the words that a pointer's target covers. The loop's invariant: what is left to be done gives
+-- what the whole gives. The measure is how many words are left. Assumes nothing.
 use Prim.Native.Nat.{ℕ, suc, _-_, _<_, _≤_}
 use mathlib.Core.List.{List}
 use mathlib.Core.Path.{_≡_, refl, sym, _∙_}

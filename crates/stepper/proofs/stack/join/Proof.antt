@@ -12,8 +12,8 @@ returns : tie.Need-returns
 unfolding joinedRow
 returns c = rw (lt-ltb _ _ (c .before .if1 .taken), c .stuck .ensures)
 
-sub-below : tie.Need-sub-below
-sub-below c = search needs
+sub-under : tie.Need-sub-under
+sub-under c = search needs
 
 value-at-requires : tie.Need-value-at-requires
 value-at-requires c κs = search needs
@@ -41,7 +41,7 @@ join-spec =
     (tie.spec
     stuck-requires
     returns
-    sub-below
+    sub-under
     value-at-requires
     code-at-requires
     sized-requires

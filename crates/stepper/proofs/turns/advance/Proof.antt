@@ -1,4 +1,5 @@
--- `stepper::turns::advance` goes on over rows without a step, as `advanced` does. The loop's invariant is `Going`: what is left to be done gives what the whole gives. The measure is how many rows are left. Assumes nothing.
+-- `stepper::turns::advance` goes on over rows without a step, as `advanced` does. The loop's invariant is `Going`: what is left to be done
+-- gives what the whole gives. The measure is how many rows are left. Assumes nothing.
 use Prim.Native.Nat.{ℕ, suc, _-_, _<_, _≤_}
 use mathlib.Core.List.{List}
 use mathlib.Core.Path.{_≡_, refl, sym, _∙_}
@@ -16,13 +17,15 @@ use borrow.Author.Needs.{needs}
 use Rattle.stepper.proofs.turns.advance.Statement.{statement}
 use Rattle.stepper.proofs.turns.advance.Tie as tie
 
-record Going (heap₀ stack₀ bound₀ rows structs types : List ℕ) (T : StepTerms) (s₀ : StepState) (heap stack bound : List ℕ) (s : StepState) (left : ℕ) : Type 0 where
+record Going (heap₀ stack₀ bound₀ rows structs types : List ℕ) (T : StepTerms) (s₀ : StepState) (heap stack bound : List ℕ) (s : StepState)
+    (left : ℕ) : Type 0 where
   same : advanced rows structs types T (wholeRows rows) s₀ heap₀ stack₀ bound₀ ≡ advanced rows structs types T left s heap stack bound
   heap-long : length heap ≡ length heap₀
   stack-long : length stack ≡ length stack₀
   bound-long : length bound ≡ length bound₀
 
-module _ {heap₀ stack₀ bound₀ rows structs types : List ℕ} {T : StepTerms} {s₀ : StepState} {heap stack bound : List ℕ} {s : StepState} {left : ℕ} (m : Going heap₀ stack₀ bound₀ rows structs types T s₀ heap stack bound s left) where
+module _ {heap₀ stack₀ bound₀ rows structs types : List ℕ} {T : StepTerms} {s₀ : StepState} {heap stack bound : List ℕ} {s : StepState} {left : ℕ}
+    (m : Going heap₀ stack₀ bound₀ rows structs types T s₀ heap stack bound s left) where
   -- where a row is left, the rest is that row and then what follows
   opened : 0 < left
       → advanced rows structs types T (wholeRows rows) s₀ heap₀ stack₀ bound₀
@@ -59,7 +62,8 @@ module _ {heap₀ stack₀ bound₀ rows structs types : List ℕ} {T : StepTerm
       }
 
 abbrev Inv-loop : tie.InvT-loop
-Inv-loop heap₀ stack₀ bound₀ rows structs types terms now₀ left₀ heap stack bound now left = Going heap₀ stack₀ bound₀ rows structs types terms now₀ heap stack bound now left
+Inv-loop heap₀ stack₀ bound₀ rows structs types terms now₀ left₀ heap stack bound now left =
+    Going heap₀ stack₀ bound₀ rows structs types terms now₀ heap stack bound now left
 
 abbrev μ-loop : tie.MeasureT-loop
 μ-loop heap₀ stack₀ bound₀ rows structs types terms now₀ left₀ heap stack bound now left = left

@@ -1,4 +1,5 @@
--- `stepper::turns::run` advances from step to step, as `stepRun` does. The loop's invariant is `Driving`: what is left to be done gives what the whole gives. The measure is how many steps the limit leaves. Assumes nothing.
+-- `stepper::turns::run` advances from step to step, as `stepRun` does. The loop's invariant is `Driving`: what is left to be done gives
+-- what the whole gives. The measure is how many steps the limit leaves. Assumes nothing.
 use Prim.Native.Nat.{ℕ, zero, suc, _-_, _^_, _<_}
 use mathlib.Core.List.{List}
 use mathlib.Core.Path.{_≡_, refl, sym, _∙_, ap}
@@ -29,7 +30,9 @@ record Driving (heap₀ stack₀ bound₀ rows structs types : List ℕ) (T : St
   narrow : T .limit < 2 ^ 64
   short : wholeRows rows < 2 ^ 62
 
-module _ {heap₀ stack₀ bound₀ rows structs types : List ℕ} {T : StepTerms} {heap stack bound : List ℕ} {s : StepState} (m : Driving heap₀ stack₀ bound₀ rows structs types T heap stack bound s) {heap′ stack′ bound′ : List ℕ} {r : StepTurn} (e : turnedTo r heap′ stack′ bound′ ≡ advanced rows structs types T (wholeRows rows) s heap stack bound) where
+module _ {heap₀ stack₀ bound₀ rows structs types : List ℕ} {T : StepTerms} {heap stack bound : List ℕ} {s : StepState}
+    (m : Driving heap₀ stack₀ bound₀ rows structs types T heap stack bound s) {heap′ stack′ bound′ : List ℕ} {r : StepTurn}
+    (e : turnedTo r heap′ stack′ bound′ ≡ advanced rows structs types T (wholeRows rows) s heap stack bound) where
   -- what the rows up to the next step came to, and then the rest
   drives-ended : {o : Outcome} (n : ℕ) → r ≡ Ends o → drives rows structs types T n s heap stack bound ≡ runEnd o heap′ stack′ bound′
   unfolding drives
@@ -78,7 +81,7 @@ module _ {heap₀ stack₀ bound₀ rows structs types : List ℕ} {T : StepTerm
       }
 
 start : {heap stack bound rows structs types : List ℕ} {T : StepTerms} → T .limit < 2 ^ 64 → wholeRows rows < 2 ^ 62
-    → Driving heap stack bound rows structs types T heap stack bound (startState rows structs types T)
+    → Driving heap stack bound rows structs types T heap stack bound (startState T)
 unfolding stepRun
 start {T = T} l h =
     let z : T .limit - 0 ≡ T .limit = omega arith in
@@ -90,8 +93,11 @@ Inv-loop heap₀ stack₀ bound₀ rows structs types terms s₀ heap stack boun
 abbrev μ-loop : tie.MeasureT-loop
 μ-loop heap₀ stack₀ bound₀ rows structs types terms s₀ heap stack bound s = terms .limit - s .steps
 
+at-start-requires : tie.Need-at-start-requires Inv-loop μ-loop
+at-start-requires c κs = search needs
+
 loop-holds : tie.Need-loop-holds Inv-loop μ-loop
-loop-holds c = start (omega arith) (omega arith)
+loop-holds c = rw (c .at-start .ensures) (start (omega arith) (omega arith))
 
 advance-requires : tie.Need-advance-requires Inv-loop μ-loop
 advance-requires c κs = search needs
@@ -141,6 +147,7 @@ run-spec =
     (tie.spec
     Inv-loop
     μ-loop
+    at-start-requires
     loop-holds
     advance-requires
     enum-known-next
