@@ -1,5 +1,5 @@
-// The lent tables that hold a script: the rows of its expression in run order, its structs and its word types. The one owner of their
-// strides, of the fields of a row's head and of the tags in a kind's code.
+// The lent tables that hold a script: the rows of its expression in run order, its structs and its word types. Here
+// stand their strides, the fields of a row's head and the tags in a kind's code.
 use calculus::Act;
 
 mod heads;
