@@ -1,6 +1,6 @@
 -- Progress and preservation, in one induction: what a well-typed expression does next. It is a value of its type; or it halts; or it
 -- steps in checked code to an expression of its type over a heap that keeps every type; or it steps, or is stuck, in unchecked code.
-use Prim.Native.Nat.{ℕ, ◌-◌, ◌≤◌, ◌<◌, ◌^◌}
+use Prim.Native.Nat.{ℕ, ◌-◌, ◌<◌, ◌^◌}
 use mathlib.Core.Path.{◌≡◌, refl}
 use mathlib.Core.Bool.{Bool, true, false, not}
 use mathlib.Core.List.{List, []}
@@ -22,7 +22,7 @@ use Rattle.cells.specs.declared.Run.TheVariants.{From, Nowhere}
 use Rattle.calculus.specs.Setting.{Setting, cell, kind_of, fields_of, size, is_checked, checked_pointer, checked_empty}
 use Rattle.calculus.specs.Expr.{Expr, lit, bind, one, two, unchecked, cast, read, field, act, Target, pointer}
 use Rattle.calculus.specs.declared.Act.{Act}
-use Rattle.calculus.specs.declared.Act.TheVariants.{Assign, Sum}
+use Rattle.calculus.specs.declared.Act.TheVariants.{Sum}
 use Rattle.calculus.specs.Literal.{WellLit, t_base}
 use Rattle.calculus.specs.Typing.{Role, whole, access, act_role, follows, castable, Element, of_word, of_array, ActTyped, act_assign, act_sum, Typed, t_var, t_lit, t_let, t_malloc, t_unchecked, t_cast, t_field, t_act, t_read, t_pointer, t_index}
 use Rattle.calculus.specs.Steps.{Step, done, stuck, halt, next, step, frame, Redex, blocked, halts, gives, redex_step, defined_then, word_then, sum_redex, field_redex, taken_from, malloc_redex, one_redex, act_redex, added}
@@ -69,6 +69,7 @@ module _ {S : Setting} {H : Heap} {r : Role} {κ : Kind} where
   redex_fine Checked x safe = go x (safe refl)
     where
       go : (x : Redex) → Safe S H r κ x → Fine S H r Checked κ (redex_step Checked x)
+      go blocked s = elim s [ ]
       go (halts h) safe_halt = is_halt
       go (gives H' n κ') (safe_value k d) = is_typed k d
   redex_fine Unchecked blocked safe = is_stuck
@@ -205,6 +206,7 @@ module _ {S : Setting} {H : Heap} where
 pub blame : {S : Setting} {H : Heap} {r : Role} {m : Mode} {e : Expr} {κ : Kind}
     → Sized S H → Typed S H r [] m e κ → Fine S H r m κ (step S m H e)
 unfolding step
+blame sized (t_var v) = elim v [ ]
 blame sized (t_lit w) = is_value (t_lit w)
 blame sized (t_malloc {m} {ω} l) = redex_fine m _ (λ c. malloc_safe ω sized l)
 blame {S} {H} sized (t_let {b} da db) =

@@ -1,5 +1,5 @@
 -- How many steps a run takes: "If a run ends with Value, its steps equal the count of nodes of codes 2 to 9; no run takes more."
-use Prim.Native.Nat.{ℕ, zero, suc, ◌+◌, ◌≤◌, ◌<◌}
+use Prim.Native.Nat.{ℕ, zero, suc, ◌+◌, ◌<◌}
 use mathlib.Core.Path.{◌≡◌, refl, sym, ap, ◌∙◌}
 use native.Mathlib.Omega.{arith}
 use lib.Dec.{eqb, ltb}
@@ -13,9 +13,8 @@ use Rattle.calculus.specs.Setting.{Setting, cell}
 use Rattle.calculus.specs.Expr.{Expr, lit, var, malloc, bind, one, two, act, pointer, operators, inside}
 use Rattle.calculus.specs.Steps.{Step, done, stuck, halt, next, step, frame, replace, Redex, blocked, halts, gives, redex_step, malloc_redex, one_redex, act_redex}
 use Rattle.calculus.specs.declared.Halt.{Halt}
-use Rattle.calculus.specs.Run.{Result, run, result, at_limit, onward, first_at}
+use Rattle.calculus.specs.Run.{Result, run, at_limit, onward}
 use Rattle.calculus.specs.Counts.{Counts, Allowed}
-use Rattle.calculus.specs.declared.End.TheVariants.{Value, Halted, Stuck, More}
 use Rattle.calculus.proofs.Apart.{differ}
 
 -- Replacing a variable keeps the operators.

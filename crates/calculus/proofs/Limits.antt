@@ -1,13 +1,11 @@
 -- Two limits: a run with a lower limit answers as the run with a higher one does, unless that took more steps than the lower limit; then
 -- it answers More, after as many steps as the lower limit, over the heap of those steps.
 use Prim.Native.Nat.{ℕ, zero, suc, ◌≤◌, ◌<◌}
-use mathlib.Core.Path.{◌≡◌, refl, sym, ap, ◌∙◌}
+use mathlib.Core.Path.{◌≡◌, refl, ap, ◌∙◌}
 use mathlib.Core.Logic.{◌↔◌}
 use native.Mathlib.Omega.{arith}
 use native.Mathlib.Decide.{dec_lt}
-use lib.Dec.{ltb}
 use borrow.Author.Tests.{lt-ltb, le-ltb}
-use Rattle.choice.specs.Choice.{choose}
 use Rattle.cells.specs.Heap.{Heap}
 use Rattle.cells.specs.declared.Mode.{Mode}
 use Rattle.cells.specs.declared.Mode.TheVariants.{Checked, Unchecked}
@@ -16,7 +14,6 @@ use Rattle.calculus.specs.Expr.{Expr}
 use Rattle.calculus.specs.Steps.{Step, done, stuck, halt, next, step}
 use Rattle.calculus.specs.Run.{Result, run, result, tick, at_limit, onward, first_at, first_after}
 use Rattle.calculus.specs.declared.End.TheVariants.{More}
-use Rattle.calculus.specs.Counts.{Allowed}
 use Rattle.calculus.specs.Limits.{onward_heap, heap_after, up_to}
 use Rattle.calculus.proofs.Counted.{allowed}
 

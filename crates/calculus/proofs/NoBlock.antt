@@ -6,7 +6,6 @@ use Rattle.choice.specs.Choice.{choose_case}
 use Rattle.cells.specs.Heap.{Heap}
 use Rattle.cells.specs.declared.Mode.{Mode}
 use Rattle.cells.specs.declared.Mode.TheVariants.{Checked}
-use Rattle.cells.specs.declared.Kind.{Kind}
 use Rattle.cells.specs.declared.Cell.{Cell}
 use Rattle.calculus.specs.Setting.{Setting, cell}
 use Rattle.calculus.specs.Expr.{Expr, lit, bind, one, two, One, unchecked, cast, read, field, Two, act, pointer, inside, Made, of_lit, of_var, of_malloc, of_bind, of_one, of_two, NoBlock}

@@ -17,8 +17,8 @@ use Rattle.calculus.specs.Setting.{Setting, fields_of, size}
 use Rattle.calculus.specs.Expr.{Expr, lit, var, malloc, bind, one, two, nodes, One, unchecked, cast, read, field, Two, act, pointer, inside}
 use Rattle.calculus.specs.declared.Act.{Act}
 use Rattle.calculus.specs.declared.Act.TheVariants.{Assign, Sum}
-use Rattle.calculus.specs.Literal.{WellLit, literal_well}
-use Rattle.calculus.specs.Typing.{Role, whole, access, follows, castable, Typed}
+use Rattle.calculus.specs.Literal.{literal_well}
+use Rattle.calculus.specs.Typing.{Role, whole, access, follows, castable}
 use Rattle.calculus.specs.Judge.{Verdict, good, bad, then_judge, access_rule, one_rule, act_rule, two_rule, one_role, two_role, judge, judged}
 use Rattle.calculus.specs.FirstFault.{Has, has_type, PartsTyped, parts_var, parts_malloc, parts_one, parts_two, FirstFault, bad_literal, no_rule, in_bound, in_body, in_part, in_left, in_right}
 use Rattle.calculus.specs.declared.Fault.{Fault}

@@ -5,7 +5,7 @@ use Rattle.cells.specs.declared.Kind.{Kind}
 use Rattle.calculus.specs.Setting.{Setting, cell}
 use Rattle.calculus.specs.Literal.{WellLit}
 use Rattle.calculus.specs.declared.End.{End}
-use Rattle.calculus.specs.declared.End.TheVariants.{Value, Halted, Stuck, More}
+use Rattle.calculus.specs.declared.End.TheVariants.{Value, Halted, More}
 use Rattle.calculus.specs.declared.Halt.{Halt}
 
 -- The heap fits the setting: malloc uses only addresses of the heap, and every address of the heap is a number of the script's width.

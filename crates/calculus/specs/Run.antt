@@ -4,7 +4,6 @@ use Rattle.std.specs.Prelude.{ℕ, zero, suc}
 use Rattle.cells.specs.Heap.{Heap}
 use Rattle.cells.specs.declared.Mode.{Mode}
 use Rattle.cells.specs.declared.Mode.TheVariants.{Checked, Unchecked}
-use Rattle.cells.specs.declared.Kind.{Kind}
 use Rattle.calculus.specs.Setting.{Setting, cell}
 use Rattle.calculus.specs.Expr.{Expr}
 use Rattle.calculus.specs.Steps.{Step, done, stuck, halt, next, step}

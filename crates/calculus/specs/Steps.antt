@@ -1,6 +1,6 @@
 -- Steps by replacement (section 3.2): "Leftmost part first, nothing under a let's body. A step is unchecked exactly if its redex lies
 -- inside an unchecked block; unwrapping a block in checked code is a checked step."
-use Rattle.std.specs.Prelude.{ℕ, zero, suc, pred, ◌+◌, ◌-◌, ◌%◌, ◌^◌, Bool, true, false, List, eqb, ltb, length, get_or}
+use Rattle.std.specs.Prelude.{ℕ, zero, suc, pred, ◌+◌, ◌-◌, ◌%◌, ◌^◌, Bool, false, eqb, ltb, length, get_or}
 use Rattle.choice.specs.Choice.{choose, both}
 use Rattle.cells.specs.Heap.{Heap, look, update, undefined}
 use Rattle.cells.specs.Free.{lowest_in}
@@ -14,7 +14,7 @@ use Rattle.cells.specs.declared.HeapWord.TheVariants.{Undefined, Holds}
 use Rattle.cells.specs.declared.Run.{Run}
 use Rattle.cells.specs.declared.Run.TheVariants.{From, Nowhere}
 use Rattle.calculus.specs.Setting.{Setting, cell, fields_of, size, word_kind, is_checked, checked_pointer, checked_empty}
-use Rattle.calculus.specs.Expr.{Expr, lit, var, malloc, bind, one, two, One, unchecked, cast, read, field, Two, act, Target, pointer, inside}
+use Rattle.calculus.specs.Expr.{Expr, lit, var, malloc, bind, one, two, One, unchecked, cast, read, field, act, pointer, inside}
 use Rattle.calculus.specs.declared.Act.{Act}
 use Rattle.calculus.specs.declared.Act.TheVariants.{Assign, Sum}
 use Rattle.calculus.specs.declared.Halt.{Halt}

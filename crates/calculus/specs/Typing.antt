@@ -9,7 +9,7 @@ use Rattle.cells.specs.declared.Kind.TheVariants.{Int, Word, Struct, Array}
 use Rattle.calculus.specs.Setting.{Setting, kind_of, fields_of, size, checked_pointer}
 use Rattle.calculus.specs.declared.Act.{Act}
 use Rattle.calculus.specs.declared.Act.TheVariants.{Assign, Sum}
-use Rattle.calculus.specs.Expr.{Expr, lit, var, malloc, bind, one, two, One, unchecked, cast, read, field, Two, act, Target, pointer}
+use Rattle.calculus.specs.Expr.{Expr, lit, var, malloc, bind, one, two, unchecked, cast, read, field, act, Target, pointer}
 use Rattle.calculus.specs.Literal.{WellLit}
 
 -- "An unchecked pointer only in unchecked mode": code of mode m may follow a pointer of mode m'

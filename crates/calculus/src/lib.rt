@@ -1,5 +1,7 @@
 // CoreChkC over cells: its definitions stand in specs/. Here are the names that the definitions and the code share: what a node does, why
 // an image is refused, and how a run ends.
+#![tactic(auto)]
+
 use cells::Cell;
 
 mod operations;
@@ -7,7 +9,7 @@ mod operations;
 pub use operations::operation_of;
 
 // What is done with the values of two parts.
-#[derive(Drop)]
+#[derive(Clone, Copy)]
 pub enum Act {
     // The word that the first points to becomes the second.
     Assign,
@@ -15,7 +17,7 @@ pub enum Act {
 }
 
 // What a node does, by its code.
-#[derive(Drop)]
+#[derive(Clone, Copy)]
 pub enum Operation {
     Literal,
     Variable,
@@ -32,7 +34,7 @@ pub enum Operation {
 }
 
 // Why an image is refused, in the order of the numbers 1 to 10.
-#[derive(Drop)]
+#[derive(Clone, Copy)]
 pub enum Fault {
     // The image ends inside a number or before the expression is complete.
     Ends,
@@ -57,14 +59,14 @@ pub enum Fault {
 }
 
 // A refusal: the fault, and its place: a byte's offset, or a node's number.
-#[derive(Drop)]
+#[derive(Clone, Copy)]
 pub struct Refusal {
     pub fault: Fault,
     pub place: usize,
 }
 
 // Why a step halts.
-#[derive(Drop)]
+#[derive(Clone, Copy)]
 pub enum Halt {
     Null,
     Bounds,
@@ -72,7 +74,7 @@ pub enum Halt {
 }
 
 // How a run ends.
-#[derive(Drop)]
+#[derive(Clone, Copy)]
 pub enum End {
     // With a value and its type.
     Value(Cell),
@@ -83,7 +85,7 @@ pub enum End {
 }
 
 // What a run answers: its end, the steps taken, and the number of the first unchecked step, 0 if there was none.
-#[derive(Drop)]
+#[derive(Clone, Copy)]
 pub struct Outcome {
     pub end: End,
     pub steps: u64,

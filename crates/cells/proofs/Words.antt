@@ -1,6 +1,6 @@
 -- The numbers of the word at an address and those after one is put there, opened as the code comes by them: at a word's place, and where
 -- there is no word.
-use Rattle.std.proofs.Common.{◌≡◌, ℕ, zero, suc, ◌+◌, ◌-◌, ◌*◌, ◌/◌, ◌<◌, ◌≤◌, Bool, true, false, eqb, ltb, List, length, get_or, set, refl, arith, le-ltb, lt-ltb}
+use Rattle.std.proofs.Common.{◌≡◌, ℕ, zero, suc, ◌+◌, ◌*◌, ◌/◌, ◌<◌, Bool, true, false, eqb, ltb, List, length, get_or, set, refl, arith, le-ltb, lt-ltb}
 use native.Mathlib.Decide.{dec_lt}
 use lib.ListN.{get_or-eq_default}
 use Rattle.choice.specs.Choice.{choose}

@@ -1,5 +1,5 @@
 -- Whether two kinds, or two cells, are the same.
-use Rattle.std.specs.Prelude.{ℕ, Bool, true, false, ◌==◌}
+use Rattle.std.specs.Prelude.{Bool, true, false, ◌==◌}
 use Rattle.choice.specs.Choice.{both}
 use Rattle.cells.specs.declared.Mode.{Mode}
 use Rattle.cells.specs.declared.Mode.TheVariants.{Checked, Unchecked}

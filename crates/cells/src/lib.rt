@@ -1,15 +1,16 @@
 // Cells: "A word is undefined or holds a value together with its type." Kinds, cells, their packed form in lent numbers, and the
 // view of a lent heap.
+#![tactic(auto)]
 
 // Whether a pointer, or the code that a step is taken in, is checked.
-#[derive(Drop)]
+#[derive(Clone, Copy)]
 pub enum Mode {
     Checked,
     Unchecked,
 }
 
 // The type of a value: int, or a pointer with its mode to a word type, to a struct or to an array of `count` words, each by number.
-#[derive(Drop)]
+#[derive(Clone, Copy)]
 pub enum Kind {
     Int,
     Word { mode: Mode, of: u8 },
@@ -18,21 +19,21 @@ pub enum Kind {
 }
 
 // A value together with its type.
-#[derive(Drop)]
+#[derive(Clone, Copy)]
 pub struct Cell {
     pub value: u64,
     pub kind: Kind,
 }
 
 // A word of the heap.
-#[derive(Drop)]
+#[derive(Clone, Copy)]
 pub enum HeapWord {
     Undefined,
     Holds(Cell),
 }
 
 // The lowest run of undefined words that is long enough: its first address, or nowhere.
-#[derive(Drop)]
+#[derive(Clone, Copy)]
 pub enum Run {
     From(usize),
     Nowhere,

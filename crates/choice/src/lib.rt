@@ -1,1 +1,2 @@
 // No code: specs/Choice.antt is what the definitions of the other crates choose by.
+#![tactic(auto)]

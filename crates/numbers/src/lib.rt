@@ -1,9 +1,11 @@
 // Numbers in an image: groups of seven bits, lowest first, only the shortest writing, at a width that the reader is told.
+#![tactic(auto)]
+
 ghost use Rattle.std.specs.Prelude.{◌+◌, ◌*◌, ◌^◌, ◌<◌, ◌≤◌, ◌≡◌};
 ghost use Rattle.numbers.specs.Reading.{groups, last_group, number_at};
 
 // What stands at a place of the image where a number is due.
-#[derive(Drop)]
+#[derive(Clone, Copy)]
 pub enum Number {
     // A good number, and the offset behind it.
     Value { value: u64, next: usize },

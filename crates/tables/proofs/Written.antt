@@ -77,9 +77,9 @@ module _ (types : List ℕ) (b : Bool) (i : ℕ) (small : i < 4096) where
   let_written {rows} {rows'} {q = q} {r = r} x k y there low =
       let n = forward y in
       let long : length rows' ≡ length rows = k.long ∙ length_row rows q (head_number task.Bind b 0 0 i) 0 in
-      let hold-put : FrontKept q rows (put_row rows q (head_number task.Bind b 0 0 i) 0) = kept_put rows (head_number task.Bind b 0 0 i) 0 (omega arith) in
+      let hold_put : FrontKept q rows (put_row rows q (head_number task.Bind b 0 0 i) 0) = kept_put rows (head_number task.Bind b 0 0 i) 0 (omega arith) in
       let put : FrontKept r rows' (put_row rows' r (head_number task.Unbind b 0 q i) 0) = kept_put rows' (head_number task.Unbind b 0 q i) 0 (omega arith) in
-      part_bind (part_kept put (omega arith) (part_kept k (omega arith) (part_kept hold-put (omega arith) x)))
+      part_bind (part_kept put (omega arith) (part_kept k (omega arith) (part_kept hold_put (omega arith) x)))
       (front_row types q put (omega arith) ∙ front_row types q k (omega arith)
       ∙ row_written types rows q task.Bind b 0 0 i 0 (omega arith) (omega arith) (omega arith) small)
       (part_kept put (omega arith) y)

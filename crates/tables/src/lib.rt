@@ -1,5 +1,7 @@
 // The lent tables that hold a script: the rows of its expression in run order, its structs and its word types. Here
 // stand their strides, the fields of a row's head and the tags in a kind's code.
+#![tactic(auto)]
+
 use calculus::Act;
 
 mod heads;
@@ -14,7 +16,7 @@ pub use kinds::{
 pub use rows::{datum_at, head_at, put_row};
 
 // What a row does. A node's row stands behind its parts' rows.
-#[derive(Drop)]
+#[derive(Clone, Copy)]
 pub enum Task {
     // Behind the last row.
     Stop,
