@@ -7,7 +7,7 @@ use mathlib.Core.List.{List, map}
 use Prim.Native.Nat.{ℕ, zero, suc, ◌+◌, ◌*◌, ◌<◌, ◌≤◌}
 use native.Mathlib.Omega.{arith}
 use native.Mathlib.Numerals.{add-one}
-use lib.Dec.{leb, ltb}
+use lib.Dec.{leb}
 use lib.ListN.{length, get_or, set, drop, length-set}
 use lib.Seq.{get_or-set_same, get_or-set_other}
 use Rattle.choice.specs.Choice.{choose}
@@ -21,7 +21,7 @@ use Rattle.calculus.specs.declared.Fault.TheVariants as fault
 use Rattle.calculus.specs.declared.Refusal.{Refusal}
 use Rattle.image.specs.Content.{Tables}
 use Rattle.image.specs.Parsing.{Parsed, got, refused, then_read, number, carried}
-use Rattle.image.specs.Nodes.{Head, parts, read_head, read_parts, read_node}
+use Rattle.image.specs.Nodes.{Head, read_head, read_parts, read_node}
 use Rattle.image.specs.Image.{read_expr}
 use Rattle.image.specs.Tabled.{one_operation, one_argument, one_kind, two_operation, Row, Spans, s_lit, s_var, s_malloc, s_bind, s_one, s_two}
 use Rattle.image.specs.Answers.{refusal}
@@ -31,7 +31,7 @@ use Rattle.image.specs.declared.NodeHead.{NodeHead}
 use Rattle.image.specs.declared.NodeHead.TheVariants as head
 use Rattle.image.specs.declared.Expression.{Expression}
 use Rattle.image.specs.declared.Expression.TheVariants.{Read, Refused}
-use Rattle.image.proofs.Gives.{Gives, gives, gives_none, gives_test, given_by}
+use Rattle.image.proofs.Gives.{Gives, gives, gives_none, given_by}
 use Rattle.image.proofs.Rows.{RowsKept, Opened, written_opens, row_kept, spans_kept}
 use Rattle.image.proofs.Alike.{Alike, alike, alike_refused, Tells, tells_lit, tells_var, tells_malloc, tells_part, tells_parts, tells_binding, line_alike}
 
@@ -188,13 +188,13 @@ into_spans (into c k span) room = span (omega arith)
 
 -- The types that the reader is lent are the packed word types, and it is told how many structs there are.
 module _ (image : List ℕ) (tables : Tables) (types : List ℕ) (structs : ℕ) (types_are : types ≡ map packed tables.types)
-    (structs-are : structs ≡ length tables.structs) where
+    (structs_are : structs ≡ length tables.structs) where
   head_is : (lets i at : ℕ) (t : List ℕ) → HeadInto t i (head_into image types structs lets i at t) (read_head image tables lets i at)
   unfolding head_into read_head
   head_is lets i at t =
       code_into_lem t i (number image at) _ _
       (λ code next. test_into t i (leb 2048 i) _ _ _ _ head_stopped
-      (rw (types_are, structs-are) (line_into_lem t i code (line_alike image tables lets at (operation_of code) next))))
+      (rw (types_are, structs_are) (line_into_lem t i code (line_alike image tables lets at (operation_of code) next))))
 
   node_is : (deep lets i at : ℕ) (t : List ℕ) → Into t i (node_into image types structs deep lets i at t) (read_node image tables deep lets i at)
   unfolding node_into read_node
@@ -239,21 +239,21 @@ left_behind at (into {e} {next} {count} c k span) =
 left_behind at (stopped e) = gives_none
 
 module _ (image : List ℕ) (tables : Tables) (types : List ℕ) (structs : ℕ) (types_are : types ≡ map packed tables.types)
-    (structs-are : structs ≡ length tables.structs) (at : ℕ) (t : List ℕ) where
+    (structs_are : structs ≡ length tables.structs) (at : ℕ) (t : List ℕ) where
   -- The answer is the definition's.
   pub expression_result : (expression_into image types structs at t).result ≡ expression_answer 0 (read_expr image tables at)
   unfolding expression_into read_expr
   expression_result =
-      ap (carried_back at) (node_result (drop at image) tables types structs types_are structs-are 64 0 0 0 t)
+      ap (carried_back at) (node_result (drop at image) tables types structs types_are structs_are 64 0 0 0 t)
       ∙ carried_answered at (read_node (drop at image) tables 64 0 0 0)
 
   pub expression_length : length (expression_into image types structs at t).table ≡ length t
   unfolding expression_into
-  expression_length = node_length (drop at image) tables types structs types_are structs-are 64 0 0 0 t
+  expression_length = node_length (drop at image) tables types structs types_are structs_are 64 0 0 0 t
 
   left : {e : Expr} {next : ℕ} → read_expr image tables at ≡ got e next → Left t (expression_into image types structs at t).table e next
   unfolding expression_into read_expr
-  left q = given_by (left_behind at (node_is (drop at image) tables types structs types_are structs-are 64 0 0 0 t)) q
+  left q = given_by (left_behind at (node_is (drop at image) tables types structs types_are structs_are 64 0 0 0 t)) q
 
   -- An expression that was read is held by the table from its first row on, if there is room, and the rows behind it are as they were.
   pub expression_spans : {e : Expr} {next : ℕ} → read_expr image tables at ≡ got e next → 4 * nodes e ≤ length t

@@ -5,21 +5,20 @@ use mathlib.Core.Path.{◌≡◌, refl}
 use mathlib.Core.List.{List}
 use Prim.Native.Nat.{ℕ, zero, suc, ◌+◌, ◌^◌, ◌<◌, ◌≤◌}
 use native.Mathlib.Omega.{arith}
-use lib.Dec.{eqb, leb, ltb}
+use lib.Dec.{leb}
 use lib.ListN.{length, get_or, drop, length-drop}
-use borrow.Author.Tests.{leb-false, ltb-false}
-use Rattle.choice.specs.Choice.{choose}
-use Rattle.cells.specs.Code.{Small, small_word, small_struct, small_array}
+use borrow.Author.Tests.{leb-false}
+use Rattle.cells.specs.Code.{Small}
 use Rattle.cells.specs.declared.Mode.TheVariants.{Checked}
 use Rattle.cells.specs.declared.Kind.{Kind}
 use Rattle.cells.specs.declared.Kind.TheVariants.{Int}
-use Rattle.calculus.specs.Expr.{Expr, lit, var, malloc, bind, one, two, nodes, One, Two, Target, pointer}
+use Rattle.calculus.specs.Expr.{Expr, lit, var, malloc, bind, one, two, nodes, One, Two, Target}
 use Rattle.calculus.specs.Operations.{operation_of}
 use Rattle.calculus.specs.declared.Operation.{Operation}
 use Rattle.calculus.specs.declared.Operation.TheVariants as op
 use Rattle.calculus.specs.declared.Fault.TheVariants as fault
 use Rattle.image.specs.Content.{Tables}
-use Rattle.image.specs.Parsing.{Parsed, got, refused, then_read, number, below, carried}
+use Rattle.image.specs.Parsing.{Parsed, got, refused, number, below, carried}
 use Rattle.image.specs.Tables.{read_target}
 use Rattle.image.specs.Nodes.{Head, leaf, part, parts, binding, read_kind, head_of, read_head, read_parts, read_node}
 use Rattle.image.specs.Image.{read_expr}

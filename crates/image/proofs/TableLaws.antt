@@ -11,9 +11,9 @@ use Rattle.calculus.specs.declared.Refusal.{Refusal}
 use Rattle.calculus.specs.declared.Fault.TheVariants as fault
 use Rattle.image.specs.Parsing.{Parsed, got, refused, below}
 use Rattle.image.specs.Filled.{filled}
-use Rattle.image.specs.Tabling.{TwoCounts, counts_at, counts_answer, on_counted, tabled, types_after, structs_after, structs_into, types_into, tables_into, placed_into, on_limited, formatted, on_formatted, cells_after, tables_after, fronted, front_into}
+use Rattle.image.specs.Tabling.{TwoCounts, counts_at, counts_answer, on_counted, tabled, types_after, structs_after, structs_into, types_into, tables_into, placed_into, formatted, on_formatted, cells_after, tables_after, fronted, front_into}
 use Rattle.image.specs.Image.{read_format}
-use Rattle.image.specs.Answers.{refusal, limited}
+use Rattle.image.specs.Answers.{refusal}
 use Rattle.image.specs.declared.Format.{Format}
 use Rattle.image.specs.declared.Formatted.{Formatted}
 use Rattle.image.specs.declared.Formatted.TheVariants as format

@@ -2,7 +2,7 @@
 -- Assumes nothing.
 use mathlib.Core.Path.{◌≡◌, refl}
 use mathlib.Core.List.{List, [], ◌∷◌}
-use Prim.Native.Nat.{ℕ, ◌+◌, ◌-◌, ◌<◌, ◌≤◌}
+use Prim.Native.Nat.{ℕ, suc, ◌+◌, ◌-◌, ◌<◌, ◌≤◌}
 use native.Mathlib.Omega.{arith}
 use lib.ListN.{length, take, drop, length-drop}
 use lib.Seq.{take_all}
@@ -29,11 +29,17 @@ module _ (image : List ℕ) (at : ℕ) where
       empty [] e = refl
       empty (x ∷ l) e = absurd (omega arith)
 
+-- nothing is read of no bytes, at whatever depth
+empty_part : (types : List ℕ) (structs : ℕ) (t : List ℕ) (deep : ℕ)
+    → node_into [] types structs (suc deep) 0 0 0 t ≡ filled (Refused (refusal fault.Ends 0)) t
+unfolding node_into head_into number groups
+empty_part types structs t deep = refl
+
 module _ (image types : List ℕ) (structs at : ℕ) (t : List ℕ) where
   -- an offset behind the image: it ends there
   pub nothing_read : length image < at → filled (Refused (refusal fault.Ends at)) t ≡ expression_into image types structs at t
-  unfolding expression_into node_into head_into number groups
-  nothing_read h = let e : at + 0 ≡ at = omega arith in rw (nothing_left image at h, e)
+  unfolding expression_into
+  nothing_read h = let e : at + 0 ≡ at = omega arith in rw (nothing_left image at h, empty_part types structs t 63, e)
 
   -- the part is handed over as `take .. (drop ..)`
   module _ {r : Expression} {t' : List ℕ} (e : filled r t' ≡ node_into (take (length image - at) (drop at image)) types structs 64 0 0 0 t) where

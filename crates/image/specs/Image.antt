@@ -1,7 +1,6 @@
 -- The image, "in this order, all of it numbers": format, counts, structs, pointer types, cells, the expression; nothing after it.
 use Rattle.std.specs.Prelude.{ℕ, List, [], ◌∷◌, eqb, ltb, length, drop}
 use Rattle.choice.specs.Choice.{choose}
-use Rattle.cells.specs.declared.Kind.{Kind}
 use Rattle.cells.specs.declared.Kind.TheVariants.{Int}
 use Rattle.calculus.specs.Expr.{Expr}
 use Rattle.calculus.specs.declared.Fault.TheVariants as fault
