@@ -128,25 +128,25 @@ module _ {first : ℕ} {Γ : List Kind} {bound : List ℕ} {end : ℕ} where
 is_suc : (n : ℕ) → 0 < n → n ≡ suc (n - 1)
 is_suc n h = omega arith
 
-module _ (structs types table : List ℕ) (first left : ℕ) (as-access : Bool) (lets : ℕ) (m : Mode) (i : ℕ) (bound : List ℕ) (o : Operation)
+module _ (structs types table : List ℕ) (first left : ℕ) (asks_access : Bool) (lets : ℕ) (m : Mode) (i : ℕ) (bound : List ℕ) (o : Operation)
     (is : operation_at table i ≡ o) where
   leaf_opened : parts_of o ≡ 0
-      → judge_node structs types table first (suc left) as-access lets m i bound ≡ judging (model.leaf_told bound structs table first lets i o) bound
+      → judge_node structs types table first (suc left) asks_access lets m i bound ≡ judging (model.leaf_told bound structs table first lets i o) bound
   unfolding judge_node
   leaf_opened p = rw (is, p)
 
   one_opened : parts_of o ≡ 1
-      → judge_node structs types table first (suc left) as-access lets m i bound
+      → judge_node structs types table first (suc left) asks_access lets m i bound
       ≡ then_judging (judge_node structs types table first left (is_access o) lets (inner_mode o m) (suc i) bound)
       (λ x bound₁. judging (model.one_told structs types table m i o x) bound₁)
   unfolding judge_node
   one_opened p = rw (is, p, add-one)
 
   two_opened : parts_of o ≡ 2
-      → judge_node structs types table first (suc left) as-access lets m i bound
+      → judge_node structs types table first (suc left) asks_access lets m i bound
       ≡ then_judging (judge_node structs types table first left (is_access o) lets (inner_mode o m) (suc i) bound)
       (λ x bound₁. then_judging (judge_node structs types table first left false (inner_lets o lets) m (node_number table i 3) (bound_with o lets x bound₁))
-      (λ y bound₂. judging (model.two_told types m i as-access o x y) bound₂))
+      (λ y bound₂. judging (model.two_told types m i asks_access o x y) bound₂))
   unfolding judge_node
   two_opened p = rw (is, p, add-one i)
 

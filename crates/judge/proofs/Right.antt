@@ -25,11 +25,11 @@ use Rattle.judge.proofs.PassLaws.{FirstBad, first_bad_lem}
 use Rattle.judge.proofs.NodeLaws.{bounds_none, Meets, meets_good, meets_bad, meets}
 
 -- a code of the table is that of the kind with its number; past the end both are int
-code_of : (ts : List Kind) (n : ℕ) → get_or (map packed ts) n 1 ≡ packed (get_or ts n Int)
+code_of_lem : (ts : List Kind) (n : ℕ) → get_or (map packed ts) n 1 ≡ packed (get_or ts n Int)
 unfolding packed
-code_of [] n = refl
-code_of (κ ∷ ts) zero = refl
-code_of (κ ∷ ts) (suc n) = code_of ts n
+code_of_lem [] n = refl
+code_of_lem (κ ∷ ts) zero = refl
+code_of_lem (κ ∷ ts) (suc n) = code_of_lem ts n
 
 module _ {words : ℕ} {c : Content} {structs types cells table marks queue bound : List ℕ}
     (h : Held c structs types cells table) (r : Readied words c marks queue bound) where
@@ -38,7 +38,7 @@ module _ {words : ℕ} {c : Content} {structs types cells table marks queue boun
       record {
         count = h.structs_held.count;
         fields = h.structs_held.fields;
-        codes = λ n. rw h.types_held (code_of c.tables.types n);
+        codes = λ n. rw h.types_held (code_of_lem c.tables.types n);
         small = r.types_small;
         bytes = r.fields_small;
       }

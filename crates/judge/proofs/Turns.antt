@@ -52,7 +52,7 @@ lets_most o lets = choose_case (λ n. n ≤ lets + 1) (is_let o) (λ _. lets + 1
 pub record Wholes (o : Operation) : Type 0 where
   pub two : parts_of o ≡ 2
   pub no_access : is_access o ≡ false
-  pub same_mode_lem : (mode : Mode) → inner_mode o mode ≡ mode
+  pub same_mode : (mode : Mode) → inner_mode o mode ≡ mode
   pub no_let : is_let o ≡ false
 
 not_true : (t : Bool) → not t ≡ true → t ≡ false
@@ -67,7 +67,7 @@ wholes op.Malloc h = absurd (as_true h)
 wholes op.Unchecked h = absurd (as_true h)
 wholes op.Cast h = absurd (as_true h)
 wholes op.Read h = absurd (as_true h)
-wholes (op.Acts a) h = record { two = refl; no_access = not_true (is_access (op.Acts a)) h; same_mode_lem = λ m. refl; no_let = refl }
+wholes (op.Acts a) h = record { two = refl; no_access = not_true (is_access (op.Acts a)) h; same_mode = λ m. refl; no_let = refl }
 wholes op.Field h = absurd (as_true h)
 wholes op.Unknown h = absurd (as_true h)
 
@@ -164,7 +164,7 @@ module _ (structs types nodes : List ℕ) (first : ℕ) where
 
     pub side_bad : (r : Refusal) (bound₁ : List ℕ) → judging (Bad r) bound₁ ≡ left_side → judging (Bad r) bound₁ ≡ at_access
     unfolding judge_node
-    side_bad r bound₁ e = rw (is_suc left n, w.two, w.no_access, w.same_mode_lem mode, ← e)
+    side_bad r bound₁ e = rw (is_suc left n, w.two, w.no_access, w.same_mode mode, ← e)
 
     module _ (x : ℕ) (bound₁ : List ℕ) (e : judging (Good x) bound₁ ≡ left_side) where
       abbrev right_side : Judging
@@ -172,9 +172,9 @@ module _ (structs types nodes : List ℕ) (first : ℕ) where
 
       pub other_bad : (r : Refusal) (bound₂ : List ℕ) → judging (Bad r) bound₂ ≡ right_side → judging (Bad r) bound₂ ≡ at_access
       unfolding judge_node
-      other_bad r bound₂ f = rw (is_suc left n, w.two, w.no_access, w.same_mode_lem mode, ← e, w.no_let, ← f)
+      other_bad r bound₂ f = rw (is_suc left n, w.two, w.no_access, w.same_mode mode, ← e, w.no_let, ← f)
 
       pub is_act : (y : ℕ) (bound₂ : List ℕ) → judging (Good y) bound₂ ≡ right_side
           → judging (two_told types mode i true (operation_at nodes i) x y) bound₂ ≡ at_access
       unfolding judge_node
-      is_act y bound₂ f = rw (is_suc left n, w.two, w.no_access, w.same_mode_lem mode, ← e, w.no_let, ← f)
+      is_act y bound₂ f = rw (is_suc left n, w.two, w.no_access, w.same_mode mode, ← e, w.no_let, ← f)

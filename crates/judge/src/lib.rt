@@ -1,4 +1,6 @@
 // The type check: "Typing starts after the whole image is read." The literals are judged over the cell table first, then the nodes.
+#![tactic(auto)]
+
 ghost use Rattle.judge.specs.Script.{ScriptJudged};
 
 use crate::literals::first_bad;
@@ -15,21 +17,21 @@ mod rules;
 mod tables;
 
 // The verdict on a script: its type, or the fault with the number of the node that has it.
-#[derive(Drop)]
+#[derive(Clone, Copy)]
 pub enum Judged {
     Good(Kind),
     Bad(Refusal),
 }
 
 // The verdict on a node, its type by its code.
-#[derive(Drop)]
+#[derive(Clone, Copy)]
 pub enum NodeTold {
     Good(u64),
     Bad(Refusal),
 }
 
 // Whether a literal, or what was marked for it, can still be well typed.
-#[derive(Drop)]
+#[derive(Clone, Copy)]
 pub enum Looked {
     // All that was looked at is there; the queue now ends here.
     On(usize),

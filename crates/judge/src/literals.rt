@@ -1,6 +1,6 @@
 // The literal check: one pass over the literals in node order. What a literal covers is marked, what of it can need other words is queued,
 // and what was queued is looked at in turn. Marks stay from literal to literal: what was found good stays good.
-ghost use Rattle.std.specs.Prelude.{◌+◌, ◌<◌, ◌≤◌, ◌^◌, ◌≡◌};
+ghost use Rattle.std.specs.Prelude.{◌+◌, ◌<◌, ◌≤◌, ◌^◌, ◌≡◌, length};
 ghost use Rattle.judge.specs.Marks.{seen};
 ghost use Rattle.judge.specs.Literals.{span, claim, look_fields, look_alike, look_at, literal_look, is_literal, node_look, first_bad, looking, found};
 
@@ -151,7 +151,7 @@ fn literal_look(
     value: u64,
     code: u64,
 ) -> Looked
-    requires* { do ⌜ tail ≤ (← ⟦queue.len()⟧) ⌝ }
+    requires { tail ≤ length queue.old }
     ensures { looking result marks.new queue.new
         ≡ literal_look structs.now types.now cells.now value code (seen marks.old queue.old tail) }
 {
@@ -202,7 +202,7 @@ fn node_look(
     tail: usize,
     i: usize,
 ) -> Looked
-    requires* { do ⌜ tail ≤ (← ⟦queue.len()⟧) ⌝ }
+    requires { tail ≤ length queue.old }
     ensures { looking result marks.new queue.new
         ≡ node_look structs.now types.now cells.now nodes.now i
         (seen marks.old queue.old tail) }

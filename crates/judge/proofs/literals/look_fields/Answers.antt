@@ -1,0 +1,47 @@
+-- The goals of `judge::literals::look_fields` that the check leaves.
+use mathlib.Core.Path.{◌≡◌, sym, ◌∙◌}
+use mathlib.Core.List.{List}
+use Prim.Native.Nat.{ℕ, suc, ◌+◌, ◌-◌, ◌<◌, ◌≤◌}
+use native.Mathlib.Omega.{arith}
+use lib.ListN.{length}
+use borrow.Author.Tests.{eq-eqb, ne_eqb}
+use Rattle.judge.specs.Tables.{entry_at}
+use Rattle.judge.specs.Marks.{seen, alone, marked}
+use Rattle.judge.specs.Literals.{Looking, on, off, claim, look_fields}
+use Rattle.judge.proofs.literals.look_fields.Invariants.{Passing}
+use Rattle.judge.proofs.literals.look_fields.Goals as goal
+
+module _ {structs types cells : List ℕ} {code first count : ℕ} {start : Looking} {marks₀ queue₀ marks queue : List ℕ} {end i : ℕ}
+    (m : Passing structs types cells code first count start marks₀ queue₀ marks queue end i) where
+  done : count ≤ i → on (seen marks queue end) ≡ start
+  unfolding look_fields
+  done h = let f : count - i ≡ 0 = omega arith in sym (m.same ∙ rw f)
+
+  module _ (h : i < count) {kind e : ℕ} (is_kind : kind ≡ claim structs types code i) (is_e : e ≡ entry_at cells (first + i) 2) where
+    stops : (e ≡ kind → ⊥) → off marks queue ≡ start
+    unfolding look_fields
+    stops n =
+        let f : count - i ≡ suc (count - (i + 1)) = omega arith in
+        sym (m.same ∙ rw (f, ← is_e, ← is_kind, ne_eqb e kind n))
+
+    turn : e ≡ kind → {marks' queue' : List ℕ} {end' : ℕ} → seen marks' queue' end' ≡ marked kind alone (first + i) (seen marks queue end)
+        → length marks' ≡ length marks → length queue' ≡ length queue
+        → Passing structs types cells code first count start marks₀ queue₀ marks' queue' end' (i + 1)
+    unfolding look_fields
+    turn q is k l =
+        let f : count - i ≡ suc (count - (i + 1)) = omega arith in
+        record {
+          below = omega arith;
+          same = m.same ∙ rw (f, ← is_e, ← is_kind, eq-eqb e kind q, ← is);
+          long = k ∙ m.long;
+          long_queue = l ∙ m.long_queue;
+        }
+
+pub returns-then-entry-kind : goal.returns-then-entry-kind
+returns-then-entry-kind c = stops c.loop-i.invariant c.loop-i-test.true c.claim-kind.ensures c.entry.ensures c.if-entry-kind.true
+
+pub loop-i-preserved : goal.loop-i-preserved
+loop-i-preserved c = turn c.loop-i.invariant c.loop-i-test.true c.claim-kind.ensures c.entry.ensures c.if-entry-kind.false c.mark-end.ensures c.mark-end.auto.marks c.mark-end.auto.queue
+
+pub returns : goal.returns
+returns c = done c.loop-i.invariant c.loop-i-test.false
