@@ -2,11 +2,13 @@
 // table; nodes whose part is being evaluated wait in lent frames, and bound values stand in a lent list. There a value is a number with
 // the code of its kind, so that nothing is taken apart and put together again on the way; a word of the heap is read and assigned as a
 // cell.
+#![tactic(auto)]
+
 use calculus::{Halt, Operation, Outcome};
 
 // On what terms a script is run: how many words the heap has, the lowest and the highest address that malloc may use, and how many steps
 // it may take.
-#[derive(Drop)]
+#[derive(Clone, Copy)]
 pub struct Terms {
     pub words: usize,
     pub low: usize,
@@ -17,7 +19,7 @@ pub struct Terms {
 // Where the machine stands. In focus is the node of number `at` where `code` is 0, else the value `at` that a part gave, with the code
 // of its kind (no kind has the code 0). Then how many frames and bound values there are, whether the focus lies inside an unchecked
 // block (0 if not), the steps taken, the number of the first unchecked one, 0 if there was none, and where malloc may start to look.
-#[derive(Drop)]
+#[derive(Clone, Copy)]
 pub struct State {
     pub at: u64,
     pub code: u64,
@@ -30,14 +32,14 @@ pub struct State {
 }
 
 // Words are never freed: no run of `size` undefined words, or of more, starts below `from`.
-#[derive(Drop)]
+#[derive(Clone, Copy)]
 pub struct Hint {
     pub size: usize,
     pub from: usize,
 }
 
 // A node as its row has it: what it does, its argument, the code of its kind or target, and the number of its second part.
-#[derive(Drop)]
+#[derive(Clone, Copy)]
 pub struct Node {
     pub operation: Operation,
     pub argument: u64,
@@ -46,7 +48,7 @@ pub struct Node {
 }
 
 // What a node gives once its parts are values: a value with the code of its kind, a halt, or that no rule fits.
-#[derive(Drop)]
+#[derive(Clone, Copy)]
 pub enum Yield {
     Gives { value: u64, code: u64 },
     Halts(Halt),
@@ -54,7 +56,7 @@ pub enum Yield {
 }
 
 // What a transition comes to: the machine goes on, or the run ends.
-#[derive(Drop)]
+#[derive(Clone, Copy)]
 pub enum Turn {
     Goes(State),
     Ends(Outcome),

@@ -1,0 +1,13 @@
+-- `machine::yields::write` is the step of an assign. Assumes nothing.
+use Rattle.std.proofs.Common.{le-leb}
+use borrow.Author.Tests.{lt-leb}
+use Rattle.machine.specs.States.{settled}
+use Rattle.machine.proofs.yields.write.Goals as goal
+
+pub returns-then-limit-s : goal.returns-then-limit-s
+unfolding settled
+returns-then-limit-s c = rw (le-leb _ _ c.if-limit-s.true, c.more.ensures)
+
+pub returns : goal.returns
+unfolding settled
+returns c = rw (lt-leb _ _ c.if-limit-s.false, ← c.unpack.ensures, c.store.ensures, c.stepped.ensures)
