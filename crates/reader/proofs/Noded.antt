@@ -32,7 +32,7 @@ test_into : {image types t : List ℕ} {b : Bool} {i p at : ℕ} (c : Bool) (x y
 test_into true x y x' y' K f g = f refl
 test_into false x y x' y' K f g = g refl
 
-module _ (image : List ℕ) (tables : Tables) (short : length image < 274877906944) (types-few : length tables.types ≤ 256)
+module _ (image : List ℕ) (tables : Tables) (short : length image < 274877906944) (types_few : length tables.types ≤ 256)
     (structs_few : length tables.structs ≤ 256) (small : (n : ℕ) → Small (get_or tables.types n Int)) where
   pub node_in_lem : (deep lets : ℕ) (b : Bool) (i p at : ℕ) (t : List ℕ) → lets + deep < 128 → StandsAt image i p at → RowRoom image t
       → IntoRows image (map packed tables.types) t b i p at
@@ -51,6 +51,6 @@ module _ (image : List ℕ) (tables : Tables) (short : length image < 2748779069
       (λ f q. refl) (number_ending image at s.within)
       (λ code next l w x. test_into (leb 2048 i) _ _ _ _ (λ r. then_read r (λ h next. read_parts image tables (read_node image tables deep) lets i h next))
       (λ _. stopped s.within refl)
-      (λ e. operation_in image tables types-few structs_few small deep (node_rows image (length tables.types) (length tables.structs) deep)
+      (λ e. operation_in image tables types_few structs_few small deep (node_rows image (length tables.types) (length tables.structs) deep)
       (read_node image tables deep) (record { goes = node_in_lem deep }) lets b low t i p at s room (leb-false 2048 i e)
       (operation_of code) next l w (omega (arith, s.within)))))

@@ -70,7 +70,7 @@ module _ (image types : List ℕ) {t : List ℕ} {b : Bool} {i p at from : ℕ} 
   operand_into part' around cursor (refused f q) line D s (ending_none w) k = rw (s f q) (stopped w refl)
 
 -- A node behind its code, where the tables are those of the image and each part goes into the rows.
-module _ (image : List ℕ) (tables : Tables) (types-few : length tables.types ≤ 256) (structs_few : length tables.structs ≤ 256)
+module _ (image : List ℕ) (tables : Tables) (types_few : length tables.types ≤ 256) (structs_few : length tables.structs ≤ 256)
     (small : (n : ℕ) → Small (get_or tables.types n Int)) (deep : ℕ)
     (part' : (around cursor : ℕ) → List ℕ → Filled ℕ) (get : ℕ → ℕ → ℕ → Parsed Expr) (each : EachPart image (map packed tables.types) deep part' get)
     (lets : ℕ) (b : Bool) (low : lets + suc deep < 128) (t : List ℕ) (i p at : ℕ)
@@ -127,7 +127,7 @@ module _ (image : List ℕ) (tables : Tables) (types-few : length tables.types �
       (leaf_into image (map packed tables.types) (suc deep) lets b t i p at at_node room more
       (malloc ω) task.Malloc 0 (packed (pointer Checked ω)) refl (omega arith) w₁
       (malloc_written (map packed tables.types) t b i p (there (omega arith) w₁) (omega arith) ω
-      (entry_small structs_few types-few (known_pointer Checked x)))))
+      (entry_small structs_few types_few (known_pointer Checked x)))))
 
   -- a node with one part, which starts at `next`
   one_in : (o : One) (k : Task) (slot datum : ℕ) (b' : Bool) (within : ℕ) (next : ℕ)

@@ -24,17 +24,17 @@ pub not_passed : {A : Type 0} → false ≡ true → A
 not_passed e = let z : ◌≡◌ {A = ℕ} 0 1 = ap inside_bit e in absurd (omega arith)
 
 -- what the tests say, with what was read by its own name
-module _ (image : List ℕ) (known around cursor : ℕ) {at code first : ℕ} (at-is : at ≡ offset_in cursor) (code_is : code ≡ get_or image at 0)
+module _ (image : List ℕ) (known around cursor : ℕ) {at code first : ℕ} (at_is : at ≡ offset_in cursor) (code_is : code ≡ get_or image at 0)
     (first_is : first ≡ get_or image (at + 1) 0) (there : at + 3 ≤ length image) (level : depth_in around ≡ 0 → ⊥) (few : nodes_in cursor < 2048)
     (one : first < 128) where
   short_with : LeafBytes known (lets_in around) code first (get_or image (at + 2) 0) → ShortLeaf image known around cursor
   short_with leaf =
       record {
-        bytes_there = rw (← at-is) (omega arith);
+        bytes_there = rw (← at_is) (omega arith);
         level = omega arith;
         few = few;
-        one = rw (← at-is, ← first_is) one;
-        leaf = rw (← at-is, ← code_is, ← first_is) leaf;
+        one = rw (← at_is, ← first_is) one;
+        leaf = rw (← at_is, ← code_is, ← first_is) leaf;
       }
 
   pub short_literal : {n : ℕ} → code ≡ 0 → n ≡ get_or image (at + 2) 0 → n < 128 → n < known → ShortLeaf image known around cursor

@@ -90,7 +90,7 @@ roomy {tail} {t} bytes e =
     (λ _ l. record { space = λ n a b. omega arith })
     (λ _ l. record { space = λ n a b. omega arith })
 
-module _ (image : List ℕ) (tables : Tables) (at : ℕ) (t : List ℕ) (not-long : length image ≤ 16384) (types-few : length tables.types ≤ 256)
+module _ (image : List ℕ) (tables : Tables) (at : ℕ) (t : List ℕ) (not_long : length image ≤ 16384) (types_few : length tables.types ≤ 256)
     (structs_few : length tables.structs ≤ 256) (small : (n : ℕ) → Small (get_or tables.types n Int)) where
   -- the node at the front of the part, and then the row that stops
   read_tells : most_rows (length image - at) ≤ whole_rows t
@@ -101,7 +101,7 @@ module _ (image : List ℕ) (tables : Tables) (at : ℕ) (t : List ℕ) (not-lon
   read_tells l =
       let long = length-drop at image in
       ended_tells (length image - at) at (omega (arith, long)) (roomy (length image - at) long l)
-      (node_in_lem (drop at image) tables (omega (arith, long)) types-few structs_few small 64 0 false 0 0 0 t (omega arith)
+      (node_in_lem (drop at image) tables (omega (arith, long)) types_few structs_few small 64 0 false 0 0 0 t (omega arith)
       (record { few = omega arith; passed = omega arith; within = omega arith; low = omega arith })
       (roomy (length image - at) long l))
 
@@ -109,7 +109,7 @@ module _ (image : List ℕ) (tables : Tables) (at : ℕ) (t : List ℕ) (not-lon
       (expression_rows image (length tables.types) (length tables.structs) at t)
   unfolding expression_rows
   expression_tells =
-      rw (le-ltb 16384 (length image) not-long)
+      rw (le-ltb 16384 (length image) not_long)
       (choose_told (Says (map packed tables.types) (length image - at) t (read_expr image tables at)) (ltb (length image) at) _ _
       (λ e. rw (nothing_there image tables at (ltb-true (length image) at e)) (tells_refused refl))
       (λ e. choose_told (Says (map packed tables.types) (length image - at) t (read_expr image tables at))
@@ -123,8 +123,8 @@ pub rows_read : {image : List ℕ} {known structs at : ℕ} {t : List ℕ} {r : 
 rows_read {image} {known} {structs} {at} {t} {r} {t'} e =
     record {
       model = e;
-      definition = λ tables not-long types_are structs-are types-few structs_few small.
+      definition = λ tables not_long types_are structs_are types_few structs_few small.
           subst (Says (map packed tables.types) (length image - at) t (read_expr image tables at))
-          (rw (types_are, structs-are) (sym e))
-          (expression_tells image tables at t not-long (rw types_are types-few) (rw structs-are structs_few) small);
+          (rw (types_are, structs_are) (sym e))
+          (expression_tells image tables at t not_long (rw types_are types_few) (rw structs_are structs_few) small);
     }

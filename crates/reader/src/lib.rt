@@ -1,5 +1,7 @@
 // The expression of an image, read into rows in run order. What crosses the recursive call is one number each way: where reading stands,
 // what is around a node, and the answer.
+#![tactic(auto)]
+
 use calculus::Refusal;
 use tables::Task;
 
@@ -13,7 +15,7 @@ mod short;
 pub use rows::read_rows;
 
 // Whether an expression was read into the lent rows.
-#[derive(Drop)]
+#[derive(Clone, Copy)]
 pub enum ExprRead {
     // It was: the offset behind it, how many nodes it has, and how many rows, the one that stops among them.
     Read {
@@ -27,7 +29,7 @@ pub enum ExprRead {
 }
 
 // What stands behind the code of a node with one part.
-#[derive(Drop)]
+#[derive(Clone, Copy)]
 pub enum Operand {
     // What its row does, with slot and datum; what is around its part, and where that starts.
     Part {

@@ -1,0 +1,44 @@
+-- `reader::cursor::fault_of` answers the fault that stands at the number in the list. Assumes nothing.
+use mathlib.Core.Path.{sym}
+use Rattle.reader.specs.Cursors.{fault_of}
+use Rattle.reader.proofs.Cursors.{no_fault}
+use Rattle.reader.proofs.cursor.fault_of.Goals as goal
+
+pub returns-in-1 : goal.returns-in-1
+unfolding fault_of
+returns-in-1 c = rw c.in-1.is
+
+pub returns-in-2 : goal.returns-in-2
+unfolding fault_of
+returns-in-2 c = rw c.in-2.is
+
+pub returns-in-3 : goal.returns-in-3
+unfolding fault_of
+returns-in-3 c = rw c.in-3.is
+
+pub returns-in-4 : goal.returns-in-4
+unfolding fault_of
+returns-in-4 c = rw c.in-4.is
+
+pub returns-in-5 : goal.returns-in-5
+unfolding fault_of
+returns-in-5 c = rw c.in-5.is
+
+pub returns-in-6 : goal.returns-in-6
+unfolding fault_of
+returns-in-6 c = rw c.in-6.is
+
+pub returns-in-7 : goal.returns-in-7
+unfolding fault_of
+returns-in-7 c = rw c.in-7.is
+
+pub returns-in-8 : goal.returns-in-8
+unfolding fault_of
+returns-in-8 c = rw c.in-8.is
+
+pub returns-in-9 : goal.returns-in-9
+unfolding fault_of
+returns-in-9 c = rw c.in-9.is
+
+pub returns-in_default : goal.returns-in_default
+returns-in_default c = sym (no_fault c.args.number c.in_default.in_default-own.rest)
