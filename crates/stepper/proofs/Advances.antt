@@ -1,25 +1,23 @@
 -- The simulation: up to and including its next step the machine over rows does what one step of the definition does; then for a run.
-use Rattle.std.proofs.Common.{◌≡◌, ℕ, zero, suc, ◌+◌, ◌<◌, ◌≤◌, max, List, [], ◌∷◌, length, get_or, sym, refl, ap, ◌∙◌, arith}
+use Rattle.std.proofs.Common.{◌≡◌, ℕ, zero, suc, ◌+◌, ◌<◌, ◌≤◌, List, [], ◌∷◌, length, sym, refl, ap, ◌∙◌, arith}
 use Rattle.cells.specs.Heap.{Heap}
 use Rattle.cells.specs.declared.Mode.{Mode}
 use Rattle.cells.specs.declared.Mode.TheVariants.{Checked}
-use Rattle.cells.specs.declared.Kind.{Kind}
 use Rattle.cells.specs.declared.Cell.{Cell}
 use Rattle.calculus.specs.Setting.{Setting, cell}
-use Rattle.calculus.specs.Expr.{Expr, lit, var, malloc, bind, one, two, act, pointer}
+use Rattle.calculus.specs.Expr.{Expr, malloc, bind, one, two, act, pointer}
 use Rattle.calculus.specs.Steps.{Step, done, stuck, halt, next, step, replace, Redex, blocked, halts, gives, redex_step, malloc_redex, one_redex, act_redex}
 use Rattle.calculus.specs.Run.{Result, run, at_limit, onward, tick}
 use Rattle.calculus.specs.declared.Halt.{Halt}
 use Rattle.calculus.proofs.Apart.{differ}
 use Rattle.image.specs.Shape.{height, Scoped}
-use Rattle.tables.specs.Rows.{whole_rows, Work, push, fetch, take, apply, join, hold, drop, stop, TaskRow, task_row, task_row_at}
+use Rattle.tables.specs.Rows.{whole_rows, stop, TaskRow, task_row_at}
 use Rattle.tables.specs.Parts.{PartRows, part_lit, part_var, part_malloc, part_bind, part_one, part_two, HoldsExpr}
-use Rattle.tables.proofs.Laid.{forward}
 use Rattle.tables.proofs.Placed.{row_inside}
-use Rattle.stepper.specs.Moves.{Standing, standing, Move, ended, stays, halting, makes, quiet, redex_move, work_move, row_move, past_move, advance}
+use Rattle.stepper.specs.Moves.{Standing, standing, Move, ended, stays, halting, makes, quiet, redex_move, row_move, past_move, advance}
 use Rattle.stepper.specs.Moves.{move_at_limit, move_onward, run_rows}
 use Rattle.stepper.proofs.Close.{cell_lit, close, close_var, close_more, close_scoped}
-use Rattle.calculus.proofs.Contexts.{Hole, in_one, in_bound, in_left, in_right, plugs, under, Busy, busy_stuck, busy_halt, busy_next, carry, context}
+use Rattle.calculus.proofs.Contexts.{Hole, plugs, Busy, busy_stuck, busy_halt, busy_next, carry, context}
 use Rattle.stepper.proofs.Continuations.{Kont, k_end, k_one, k_left, k_right, k_hold, k_drop, Sim, begin, return, kont_mode}
 
 module _ (types rows : List ℕ) (room : ℕ) where

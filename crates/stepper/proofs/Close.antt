@@ -1,5 +1,5 @@
 -- An expression under bound values: each variable is its value. Every variable becomes a literal, so that nothing is left to replace.
-use Rattle.std.proofs.Common.{◌≡◌, ℕ, zero, suc, pred, ◌-◌, ◌<◌, ◌≤◌, eqb, ltb, List, [], ◌∷◌, get_or, refl, ap, ap₂, arith, le-ltb, lt-ltb, eq-eqb, ne_eqb}
+use Rattle.std.proofs.Common.{◌≡◌, ℕ, zero, suc, ◌-◌, ◌<◌, ltb, List, ◌∷◌, get_or, refl, ap, ap₂, arith, le-ltb, lt-ltb, eq-eqb}
 use native.Mathlib.Decide.{dec_lt}
 use Rattle.choice.specs.Choice.{choose}
 use Rattle.cells.specs.declared.Cell.{Cell}

@@ -1,13 +1,13 @@
 -- A state of the machine stands for the expression that remains under replacement: the part that begins at its row, or the value on its
 -- stack, in the context of the rows behind it. Every value that is still to come has room on the stack and among the bound values.
-use Rattle.std.proofs.Common.{◌≡◌, ℕ, suc, ◌+◌, ◌<◌, ◌≤◌, max, List, [], ◌∷◌, length, refl, ap, arith}
+use Rattle.std.proofs.Common.{◌≡◌, ℕ, suc, ◌+◌, ◌<◌, ◌≤◌, List, [], ◌∷◌, length, refl, ap}
 use Rattle.cells.specs.declared.Mode.{Mode}
 use Rattle.cells.specs.declared.Mode.TheVariants.{Checked}
 use Rattle.cells.specs.declared.Cell.{Cell}
-use Rattle.calculus.specs.Expr.{Expr, bind, one, two, One, act, inside}
+use Rattle.calculus.specs.Expr.{Expr, One, inside}
 use Rattle.calculus.specs.declared.Act.{Act}
 use Rattle.image.specs.Shape.{height}
-use Rattle.tables.specs.Rows.{whole_rows, push, fetch, take, apply, join, hold, drop, stop, task_row, task_row_at}
+use Rattle.tables.specs.Rows.{apply, join, hold, drop, stop, task_row, task_row_at}
 use Rattle.tables.specs.Parts.{PartRows}
 use Rattle.stepper.specs.Moves.{Standing, standing}
 use Rattle.stepper.proofs.Close.{cell_lit, close}

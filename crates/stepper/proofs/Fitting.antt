@@ -1,17 +1,17 @@
 -- Of a state that stands for an expression: its row has room for what it puts, a malloc's datum is the very code of its kind, and a row
 -- without a step leaves a state that stands for the same expression.
-use Rattle.std.proofs.Common.{◌≡◌, ℕ, suc, ◌+◌, ◌<◌, ◌≤◌, max, List, [], ◌∷◌, length, get_or, sym, refl, ap, ◌∙◌, subst, arith}
+use Rattle.std.proofs.Common.{◌≡◌, ℕ, ◌+◌, ◌<◌, ◌≤◌, List, ◌∷◌, length, get_or, subst, arith}
 use Rattle.cells.specs.Code.{packed}
 use Rattle.cells.specs.Heap.{Heap}
 use Rattle.cells.specs.declared.Mode.{Mode}
 use Rattle.cells.specs.declared.Kind.{Kind}
 use Rattle.cells.specs.declared.Cell.{Cell}
 use Rattle.calculus.specs.Setting.{Setting, cell}
-use Rattle.calculus.specs.Expr.{Expr, One, pointer}
+use Rattle.calculus.specs.Expr.{Expr, One}
 use Rattle.calculus.specs.Steps.{Redex, blocked, halts, gives, malloc_redex, one_redex, act_redex}
 use Rattle.calculus.specs.declared.Act.{Act}
 use Rattle.image.specs.Shape.{height}
-use Rattle.tables.specs.Rows.{datum_at, Work, push, fetch, take, apply, join, hold, drop, stop, TaskRow, task_row_at}
+use Rattle.tables.specs.Rows.{datum_at, Work, push, fetch, take, apply, join, hold, drop, stop, task_row_at}
 use Rattle.tables.specs.Parts.{PartRows, part_lit, part_var, part_malloc, part_bind, part_one, part_two}
 use Rattle.stepper.specs.Moves.{Standing, standing, nought, Move, ended, stays, halting, makes, quiet, redex_move, standing_move}
 use Rattle.stepper.proofs.Close.{close, close_var}

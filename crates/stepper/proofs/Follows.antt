@@ -1,14 +1,12 @@
 -- The code's state stands for the model's, and a row does with it what the model's row does.
-use Rattle.std.proofs.Common.{◌≡◌, ℕ, zero, suc, ◌+◌, ◌-◌, ◌*◌, ◌/◌, ◌^◌, ◌<◌, ◌≤◌, Bool, true, false, eqb, leb, List, [], ◌∷◌, length, get_or, sym, refl, ap, ◌∙◌, add-one, arith, le-ltb, ne_eqb, le-leb}
+use Rattle.std.proofs.Common.{◌≡◌, ℕ, suc, ◌-◌, ◌*◌, ◌/◌, ◌^◌, ◌<◌, ◌≤◌, Bool, false, eqb, leb, List, [], ◌∷◌, length, get_or, sym, refl, ap, ◌∙◌, add-one, arith, le-ltb, ne_eqb, le-leb}
 use native.Mathlib.Decide.{dec_le}
 use lib.ListN.{get_or-eq_default}
 use borrow.Author.Tests.{lt-leb}
 use Rattle.cells.specs.Code.{packed, unpacked, Small, small_int}
 use Rattle.cells.specs.Heap.{Heap, SmallHeap}
 use Rattle.cells.specs.Lent.{lent, lent_number, put_word}
-use Rattle.cells.specs.declared.Mode.{Mode}
 use Rattle.cells.specs.declared.Kind.{Kind}
-use Rattle.cells.specs.declared.Kind.TheVariants.{Int}
 use Rattle.cells.specs.declared.Cell.{Cell}
 use Rattle.cells.proofs.Codes.{round_trip, unpacked_small}
 use Rattle.cells.proofs.View.{length_put}
@@ -20,15 +18,13 @@ use Rattle.calculus.specs.declared.Act.{Act}
 use Rattle.calculus.specs.declared.End.TheVariants as ends
 use Rattle.calculus.specs.declared.Halt.{Halt}
 use Rattle.calculus.proofs.Apart.{differ}
-use Rattle.tables.specs.Heads.{task_in, inside_in, slot_in}
 use Rattle.tables.specs.Kinds.{type_code_at}
-use Rattle.tables.specs.Rows.{whole_rows, head_at, datum_at, type_kind, inside_mode, work_of, task_row_at, stop, apply, join, hold, drop}
+use Rattle.tables.specs.Rows.{whole_rows, type_kind, inside_mode, work_of, stop, apply, join, hold, drop}
 use Rattle.tables.specs.declared.Task.{Task}
 use Rattle.tables.specs.declared.Task.TheVariants as task
 use Rattle.tables.proofs.Held.{type_kind_lem, type_exact}
 use Rattle.tables.proofs.Operands.{one_task, OneOperands}
-use Rattle.tables.proofs.Placed.{row_inside}
-use Rattle.stepper.specs.Moves.{Standing, standing, nought, Move, ended, stays, halting, makes, quiet, redex_move, work_move, standing_move}
+use Rattle.stepper.specs.Moves.{standing, nought, Move, ended, stays, halting, makes, quiet, redex_move, work_move}
 use Rattle.stepper.specs.declared.StepHint.{StepHint}
 use Rattle.stepper.specs.declared.StepState.{StepState}
 use Rattle.stepper.specs.declared.StepTerms.{StepTerms}
@@ -36,9 +32,7 @@ use Rattle.stepper.specs.declared.StepTurn.TheVariants.{Goes, Steps, Ends}
 use Rattle.stepper.specs.States.{Changed, Turned, turned_to, state_of, one_more, first_by}
 use Rattle.stepper.specs.Stack.{pushed, fetched, allotted, applied, joined_row, bound_next, unbound_next, stopped_at, on_stack_of, on_heap_of, on_bound_of}
 use Rattle.stepper.specs.Stack.{beside_bound, task_turn}
-use Rattle.stepper.specs.Turns.{row_turn}
-use Rattle.stepper.proofs.Advances.{rows_of}
-use Rattle.stepper.proofs.Listed.{TwoNumbers, Listed, listed_none, listed_more, listed_put, listed_at, listed_small}
+use Rattle.stepper.proofs.Listed.{Listed, listed_none, listed_more, listed_put, listed_at, listed_small}
 use Rattle.stepper.proofs.Fitting.{RowFits, fits_push, fits_fetch, fits_take, fits_hold}
 use Rattle.stepper.proofs.GivesAs.{HeapNext, heap_stays, OnTerms, one_as, act_as}
 use Rattle.stepper.proofs.Zeroed.{HintHolds}

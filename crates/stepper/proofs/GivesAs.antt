@@ -10,7 +10,7 @@ use Rattle.cells.specs.Lent.{lent, stored}
 use Rattle.cells.specs.declared.Mode.{Mode}
 use Rattle.cells.specs.declared.Mode.TheVariants.{Checked, Unchecked}
 use Rattle.cells.specs.declared.Kind.{Kind}
-use Rattle.cells.specs.declared.Kind.TheVariants.{Int, Word, Struct, Array}
+use Rattle.cells.specs.declared.Kind.TheVariants.{Word, Struct}
 use Rattle.cells.specs.declared.Cell.{Cell}
 use Rattle.cells.specs.declared.HeapWord.{HeapWord}
 use Rattle.cells.specs.declared.HeapWord.TheVariants.{Undefined, Holds}
@@ -26,7 +26,7 @@ use Rattle.calculus.specs.declared.Halt.{Halt}
 use Rattle.calculus.specs.declared.Halt.TheVariants.{Null, Bounds}
 use Rattle.tables.specs.Kinds.{type_code_at, field_count_at, field_type_at, code_checked, word_code, HoldsSetting}
 use Rattle.tables.specs.Rows.{type_kind}
-use Rattle.tables.proofs.Coded.{Coded, coded_int, coded_word, coded_struct, coded_array, coded_kind, tag_kind, number_kind, checked_kind, array_kind}
+use Rattle.tables.proofs.Coded.{Coded, coded_int, coded_word, coded_struct, coded_array, coded_kind, checked_kind, array_kind}
 use Rattle.tables.proofs.Coded.{empty_kind, fallen_kind, fallen_small}
 use Rattle.tables.proofs.Held.{field_code, field_small, type_kind_lem, type_exact}
 use Rattle.tables.proofs.Operands.{one_task, OneOperands}

@@ -1,6 +1,5 @@
 -- Up to and including its next step the code does what one step of the definition does, from a state that stands for an expression.
-use Rattle.std.proofs.Common.{◌≡◌, ℕ, zero, suc, ◌*◌, ◌^◌, ◌<◌, ◌≤◌, Bool, List, length, refl, arith}
-use native.Mathlib.Decide.{dec_le}
+use Rattle.std.proofs.Common.{◌≡◌, ℕ, zero, suc, ◌*◌, ◌^◌, ◌<◌, ◌≤◌, Bool, List, length, refl}
 use Rattle.cells.specs.Heap.{Heap, SmallHeap}
 use Rattle.cells.specs.Lent.{lent}
 use Rattle.cells.specs.declared.Mode.TheVariants.{Checked}

@@ -20,7 +20,7 @@ use Rattle.stepper.specs.declared.StepYield.{StepYield}
 use Rattle.stepper.specs.declared.StepYield.TheVariants.{Gives, Halts, Blocked}
 use Rattle.stepper.specs.declared.StepTurn.{StepTurn}
 use Rattle.stepper.specs.declared.StepTurn.TheVariants.{Goes, Steps, Ends}
-use Rattle.stepper.specs.States.{Turned, one_more, resized, looked, topped, ends_halt, count_within, settled_by, settled_on}
+use Rattle.stepper.specs.States.{Turned, one_more, resized, looked, ends_halt, settled_by, settled_on}
 use Rattle.stepper.specs.Yields.{one_gives, act_gives}
 use Rattle.stepper.specs.Malloc.{room_takes, room_by, room_sized, sought_from}
 use Rattle.stepper.specs.Stack.{pushed, fetched, allotted, applied, below_top, joined_row, bound_next, unbound_next, stopped_at, task_turn}

@@ -1,13 +1,11 @@
 -- The code runs the definition: what it answers and the heap that it leaves are those of the run by replacement.
 use Rattle.std.proofs.Common.{◌≡◌, ℕ, zero, suc, ◌+◌, ◌-◌, ◌*◌, ◌^◌, ◌<◌, ◌≤◌, Bool, true, false, List, [], length, refl, ap, ◌∙◌, add-zero, zero-add, add-one, arith, ne_eqb}
-use Rattle.cells.specs.Heap.{Heap, SmallHeap}
+use Rattle.cells.specs.Heap.{Heap}
 use Rattle.cells.specs.Lent.{lent}
-use Rattle.cells.specs.declared.Mode.{Mode}
-use Rattle.cells.specs.declared.Mode.TheVariants.{Checked}
 use Rattle.cells.specs.declared.Cell.{Cell}
 use Rattle.calculus.specs.Setting.{Setting}
 use Rattle.calculus.specs.Expr.{Expr}
-use Rattle.calculus.specs.Steps.{Step, step}
+use Rattle.calculus.specs.Steps.{Step}
 use Rattle.calculus.specs.Run.{Result, outcome_of, first_at, first_after, tick, at_limit, onward, run}
 use Rattle.calculus.specs.declared.Outcome.{Outcome}
 use Rattle.image.specs.Shape.{height}
@@ -19,16 +17,15 @@ use Rattle.stepper.specs.declared.StepTerms.{StepTerms}
 use Rattle.stepper.specs.declared.StepTurn.TheVariants.{Steps}
 use Rattle.stepper.specs.States.{Turned, turned_to, state_of, one_more, first_by}
 use Rattle.stepper.specs.Malloc.{start_hint}
-use Rattle.stepper.specs.Turns.{RunEnd, run_end, after_step, advanced, drives, step_run}
+use Rattle.stepper.specs.Turns.{RunEnd, run_end, after_step, drives, step_run}
 use Rattle.stepper.specs.Ready.{StepReady}
 use Rattle.stepper.specs.Entry.{RunAs, StepRan}
 use Rattle.stepper.proofs.Continuations.{Sim}
 use Rattle.stepper.proofs.Advances.{MeetsStep, m_ended, m_stays, m_halting, m_makes, starts}
 use Rattle.stepper.proofs.Listed.{listed_none}
-use Rattle.stepper.proofs.GivesAs.{OnTerms, HeapNext}
-use Rattle.stepper.proofs.Zeroed.{HintHolds}
-use Rattle.stepper.proofs.Follows.{Stands, top_none, Follows, f_ended, f_stays, f_halting, f_makes}
-use Rattle.stepper.proofs.NextStep.{Lends, NextStep, next_step}
+use Rattle.stepper.proofs.GivesAs.{OnTerms}
+use Rattle.stepper.proofs.Follows.{Stands, top_none, Follows, f_ended, f_stays, f_halting, f_makes, f_quiet}
+use Rattle.stepper.proofs.NextStep.{Lends, next_step}
 
 -- the number of the first unchecked step, where s steps with first unchecked step f came before those counted by q
 first_later : (s f q : ℕ) → ℕ
@@ -98,6 +95,7 @@ module _ {S : Setting} {T : StepTerms} {ws structs types : List ℕ} (L : OnTerm
         rw (q₀ l) (record { outcome_same = rw (add-zero, ← first_none steps first); heap_same = refl; heap_long = long })
     at_end high lets go l (f_makes b q₀ q₁ n k lh ll s) (m_makes sim) =
         rw (q₀ l) (record { outcome_same = rw (add-zero, ← first_none steps first); heap_same = refl; heap_long = long })
+    at_end high lets go l (f_quiet q lh ll s) m = elim m [ ]
 
     -- n steps are left behind this one
     onwards : {r : Turned} {m : Move} {t : Step} (n high lets : ℕ) → T.limit - steps ≡ suc n → Runs n → 2 * room ≤ high → 2 * room ≤ lets
@@ -129,6 +127,7 @@ module _ {S : Setting} {T : StepTerms} {ws structs types : List ℕ} (L : OnTerm
         s
         sim
         (omega arith)))
+    onwards n high lets e ih rs rb (f_quiet q lh ll s) m = elim m [ ]
 
   runs : (n : ℕ) → Runs n
   unfolding drives run

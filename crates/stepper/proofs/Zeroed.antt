@@ -13,7 +13,7 @@ use Rattle.cells.proofs.View.{stored_lent, lowest_lent}
 use Rattle.cells.proofs.Free.{Vacant, Lowest, lowest_from_lem, vacant_before}
 use Rattle.calculus.specs.Setting.{Setting, cell, size, word_kind}
 use Rattle.calculus.specs.Steps.{zeroed}
-use Rattle.tables.proofs.Held.{size_kind, word_kind_lem, words_small}
+use Rattle.tables.proofs.Held.{word_kind_lem, words_small}
 use Rattle.stepper.specs.declared.StepHint.{StepHint}
 use Rattle.stepper.specs.declared.StepTerms.{StepTerms}
 use Rattle.stepper.specs.States.{one_more, room_hint}

@@ -1,11 +1,13 @@
 // The machine over rows in run order: it runs a script over the lent heap as "Steps" and "How a run ends" say. The rows stay as loaded; the
 // values that wait for their node stand on a lent stack, and bound values in a lent list. There a value is a number with the code of its
 // kind, so that nothing is taken apart and put together again on the way; a word of the heap is read and assigned as a cell.
+#![tactic(auto)]
+
 use calculus::{Halt, Outcome};
 
 // On what terms a script is run: how many words the heap has, the lowest and the highest address that malloc may use, and how many steps
 // it may take.
-#[derive(Drop)]
+#[derive(Clone, Copy)]
 pub struct StepTerms {
     pub words: usize,
     pub low: usize,
@@ -16,7 +18,7 @@ pub struct StepTerms {
 // Where the machine stands: the row that is next; the value on top of the stack with the code of its kind, where there is one; how many
 // values are on the stack, that one included, and how many are bound; whether the row that was looked at lies inside an unchecked block;
 // the steps taken, the number of the first unchecked one, 0 if there was none; and where malloc may start to look.
-#[derive(Drop)]
+#[derive(Clone, Copy)]
 pub struct StepState {
     pub row: usize,
     pub value: u64,
@@ -30,14 +32,14 @@ pub struct StepState {
 }
 
 // Words are never freed: no run of `size` undefined words, or of more, starts below `from`.
-#[derive(Drop)]
+#[derive(Clone, Copy)]
 pub struct StepHint {
     pub size: usize,
     pub from: usize,
 }
 
 // What a node gives once its parts are values: a value with the code of its kind, a halt, or that no rule fits.
-#[derive(Drop)]
+#[derive(Clone, Copy)]
 pub enum StepYield {
     Gives { value: u64, code: u64 },
     Halts(Halt),
@@ -45,7 +47,7 @@ pub enum StepYield {
 }
 
 // What a row comes to: the machine goes on without a step, or after one; or the run ends.
-#[derive(Drop)]
+#[derive(Clone, Copy)]
 pub enum StepTurn {
     Goes(StepState),
     Steps(StepState),

@@ -1,0 +1,32 @@
+-- `stepper::malloc::malloc` is what a malloc comes to. Assumes nothing.
+use Rattle.std.proofs.Common.{eq-eqb, ne_eqb}
+use Rattle.stepper.specs.Malloc.{room_sized}
+use Rattle.stepper.proofs.malloc.malloc.Goals as goal
+
+pub returns-then-size-eq0 : goal.returns-then-size-eq0
+unfolding room_sized
+returns-then-size-eq0 c = rw (← c.size_of-size.ensures, eq-eqb _ _ c.if-size-eq0.true, c.stuck.ensures)
+
+pub returns-in-From : goal.returns-in-From
+unfolding room_sized
+returns-in-From c =
+    rw (
+      ← c.size_of-size.ensures,
+      ne_eqb _ _ c.if-size-eq0.false,
+      ← c.start.ensures,
+      ← c.lowest_run.ensures,
+      c.in-From.is,
+      ← c.take.ensures,
+    )
+
+pub returns-in-Nowhere : goal.returns-in-Nowhere
+unfolding room_sized
+returns-in-Nowhere c =
+    rw (
+      ← c.size_of-size.ensures,
+      ne_eqb _ _ c.if-size-eq0.false,
+      ← c.start.ensures,
+      ← c.lowest_run.ensures,
+      c.in-Nowhere.is,
+      c.halt.ensures,
+    )
