@@ -1,6 +1,6 @@
 -- The line that the runner prints: "end, value, type, `steps`, count, `unchecked`, first; or `refused`, number, `at`, place".
 use Rattle.std.specs.Prelude.{ℕ, zero, suc, ◌+◌, ◌/◌, ◌%◌, List, [], ◌∷◌, ◌++◌, ltb}
-use Prim.Native.Char.{Char, code}
+use Prim.Native.Char.{code}
 use Prim.Native.String.{String, [] as empty, ◌∷◌ as letter}
 use Rattle.choice.specs.Choice.{choose}
 use Rattle.cells.specs.declared.Mode.{Mode}

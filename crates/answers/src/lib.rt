@@ -1,15 +1,17 @@
 // What an image is answered with: the answer, its reading, its six numbers for a host in another language, and its line.
+#![tactic(auto)]
+
 use calculus::{Outcome, Refusal};
 
 // What an image is answered with: it is refused, or it was run.
-#[derive(Drop)]
+#[derive(Clone, Copy)]
 pub enum Answer {
     Refused(Refusal),
     Ran(Outcome),
 }
 
 // The reading that an answer gives: a number, or the plain statement that there is none.
-#[derive(Drop)]
+#[derive(Clone, Copy)]
 pub enum Reading {
     Number(u64),
     Nothing,

@@ -15,7 +15,7 @@ use cells::{Kind, Mode};
 // Writes the line and a newline, and answers how many bytes they have: never more than 127.
 pub fn write_line(out: &mut [u8], answer: Answer) -> usize
     ensures value { result ≡ length (line answer) + 1 }
-    ensures out_after { out.new ≡ sets out.old 0 (line answer ++ 10 ∷ []) }
+    ensures line_written { out.new ≡ sets out.old 0 (line answer ++ 10 ∷ []) }
     ensures upper_bound { result ≤ 127 }
 {
     let end = put_answer(out, answer);
