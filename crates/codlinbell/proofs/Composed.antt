@@ -1,21 +1,19 @@
 -- How the contracts of loading, judging, placing and running join: each law is what one function of the library needs, over plain lists.
-use Prim.Native.Nat.{ℕ, ◌+◌, ◌*◌, ◌/◌, ◌≤◌, ◌<◌, min}
+use Prim.Native.Nat.{ℕ, ◌*◌, ◌/◌, ◌≤◌, min}
 use mathlib.Core.Path.{◌≡◌, refl, sym, ap, subst, ◌∙◌}
 use mathlib.Core.List.{List}
 use native.Mathlib.Omega.{arith}
 use lib.ListN.{length, take}
 use Rattle.cells.specs.Lent.{lent, heap_words, cleared}
 use Rattle.cells.specs.declared.Kind.{Kind}
-use Rattle.calculus.specs.Expr.{nodes}
-use Rattle.calculus.specs.Judge.{Verdict, good, bad, judged}
-use Rattle.calculus.specs.Run.{Result, run}
+use Rattle.calculus.specs.Judge.{Verdict, bad, judged}
 use Rattle.calculus.specs.declared.Refusal.{Refusal}
 use Rattle.calculus.specs.declared.Outcome.{Outcome}
 use Rattle.calculus.proofs.Apart.{differ}
 use Rattle.image.specs.Content.{Content, setting_of, heap_of}
 use Rattle.image.specs.Parsing.{Parsed, got, refused}
 use Rattle.image.specs.Image.{read_image}
-use Rattle.image.specs.Tabled.{Held, cell_rows}
+use Rattle.image.specs.Tabled.{Held}
 use Rattle.image.specs.Loaded as loaded
 use Rattle.image.specs.declared.Sizes.{Sizes}
 use Rattle.image.specs.declared.Loading.{Loading}
@@ -29,7 +27,6 @@ use Rattle.machine.specs.Entry.{Stepped}
 use Rattle.codlinbell.specs.Answered.{Answered, answering, answered, ran, judged_then, read_then, content_verdict, content_run, announced, announced_of}
 use Rattle.codlinbell.specs.Placing.{cells_stored}
 use Rattle.codlinbell.specs.Prepared.{whole_heap, LongTables, Prepared}
-use Rattle.answers.specs.declared.Answer.{Answer}
 use Rattle.answers.specs.declared.Answer.TheVariants.{Refused, Ran}
 use Rattle.codlinbell.proofs.Heaps.{cells_made}
 use Rattle.codlinbell.proofs.Prepared.{rising, readied, ready}

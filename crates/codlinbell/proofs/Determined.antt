@@ -1,11 +1,9 @@
 -- Determined: for each public function, any two answers that meet its contract are equal, and so is the lent memory that they leave.
 use Prim.Native.Nat.{ℕ, ◌+◌}
 use mathlib.Core.Path.{◌≡◌, sym, ap, ◌∙◌}
-use mathlib.Core.Bool.{Bool}
 use mathlib.Core.List.{List, [], ◌∷◌, ◌++◌}
 use lib.ListN.{length}
 use lib.Seq.{sets}
-use Rattle.calculus.specs.Judge.{Verdict}
 use Rattle.calculus.proofs.Apart.{differ}
 use Rattle.judge.specs.Script.{as_verdict}
 use Rattle.judge.specs.declared.Judged.{Judged}

@@ -1,13 +1,12 @@
 -- What reading an image sees to, as the judge and the machine want it: for the content of every image that reads without fault, with
 -- tables that hold it and enough room beside them, the judge's and the machine's contracts speak of the definitions.
-use Prim.Native.Nat.{ℕ, zero, suc, ◌+◌, ◌*◌, ◌≤◌, ◌<◌, max}
+use Prim.Native.Nat.{ℕ, ◌*◌, ◌≤◌, ◌<◌}
 use mathlib.Core.Path.{◌≡◌, refl, ap}
-use mathlib.Core.List.{List, [], ◌∷◌}
+use mathlib.Core.List.{List, []}
 use native.Mathlib.Decide.{dec_lt}
 use native.Mathlib.Omega.{arith}
 use lib.ListN.{length, get_or, get_or-eq_default}
 use Rattle.cells.specs.Code.{Small, small_int}
-use Rattle.cells.specs.Heap.{Heap}
 use Rattle.cells.specs.Lent.{lent}
 use Rattle.cells.specs.declared.Kind.{Kind}
 use Rattle.cells.specs.declared.Kind.TheVariants.{Int}
@@ -45,7 +44,7 @@ fields_small {t} g =
     everywhere (λ n. n < 256) (get_or t.structs s []) 0 (omega arith) (λ i k. let few = g.few_types in omega (arith, each_at f.each_known i 0 k)))
 
 -- The cells rise, and their kinds fit their codes.
-cells_rise : {words before : ℕ} {types : List Kind} {ps : List Placed} → ((n : ℕ) → Small (get_or types n Int)) → read.Rising words types before ps
+cells_rise : {words : ℕ} {types : List Kind} {before : ℕ} {ps : List Placed} → ((n : ℕ) → Small (get_or types n Int)) → read.Rising words types before ps
     → CellsRise words before ps
 cells_rise small read.rising_none = none
 cells_rise small (read.rising {n = n} {p = p} h l v k e r) = more {p = p} h l (rw e (small n)) (cells_rise small r)

@@ -1,20 +1,16 @@
 -- The promises, from bytes: what the answer to any image is, over any lent heap and limit. A reader starts here.
-use Prim.Native.Nat.{ℕ, ◌≤◌, ◌<◌, ◌*◌, ◌^◌, min}
+use Prim.Native.Nat.{ℕ}
 use mathlib.Core.Path.{◌≡◌, refl, ap, subst, ◌∙◌}
-use mathlib.Core.List.{List, [], ◌∷◌}
+use mathlib.Core.List.{List, []}
 use native.Mathlib.Omega.{arith}
 use lib.ListN.{length}
-use Rattle.cells.specs.Heap.{Heap}
 use Rattle.cells.specs.Lent.{heap_words, lent}
 use Rattle.cells.specs.declared.Kind.{Kind}
-use Rattle.cells.specs.declared.Cell.{Cell}
 use Rattle.cells.specs.declared.Mode.TheVariants.{Checked}
-use Rattle.calculus.specs.Setting.{Setting, cell}
+use Rattle.calculus.specs.Setting.{cell}
 use Rattle.calculus.specs.Expr.{operators}
 use Rattle.calculus.specs.Typing.{Typed, whole}
-use Rattle.calculus.specs.Judge.{Verdict, good, bad, judged}
-use Rattle.calculus.specs.Run.{Result, run}
-use Rattle.calculus.specs.declared.Fault.{Fault}
+use Rattle.calculus.specs.Judge.{Verdict, good, bad}
 use Rattle.calculus.specs.declared.Refusal.{Refusal}
 use Rattle.calculus.specs.declared.End.{End}
 use Rattle.calculus.specs.declared.End.TheVariants.{Value, Halted, Stuck, More}
@@ -26,7 +22,7 @@ use Rattle.calculus.specs.GoodEnd.{Sized}
 use Rattle.calculus.proofs.Counted.{counted, allowed}
 use Rattle.calculus.proofs.Refused.{refused_first}
 use Rattle.calculus.proofs.Blameless.{blameless}
-use Rattle.image.specs.Content.{Content, setting_of, heap_of}
+use Rattle.image.specs.Content.{Content}
 use Rattle.image.specs.Parsing as reading
 use Rattle.image.specs.Image.{read_image}
 use Rattle.image.specs.declared.Format.{Format}

@@ -1,8 +1,6 @@
 -- The worked images P1 to P14 with their variants, from bytes, in one theorem over their table.
-use Prim.Native.Nat.{ℕ, ◌*◌}
 use mathlib.Core.Path.{◌≡◌, refl}
-use mathlib.Core.List.{List, [], ◌∷◌, ◌++◌, map}
-use lib.ListN.{replicate}
+use mathlib.Core.List.{[], map}
 use Rattle.choice.specs.Choice.{all_from}
 use Rattle.numbers.specs.Reading.{groups, last_group}
 use Rattle.cells.specs.Code.{packed}

@@ -1,10 +1,7 @@
 -- The answer for an image, a lent heap and a limit: the refusal, with the heap as it was lent, or the run's result and the heap's
 -- final numbers.
 use Rattle.std.specs.Prelude.{ℕ, List}
-use Rattle.cells.specs.Heap.{Heap}
 use Rattle.cells.specs.Lent.{heap_words, lent}
-use Rattle.cells.specs.declared.Kind.{Kind}
-use Rattle.calculus.specs.Setting.{Setting}
 use Rattle.calculus.specs.Judge.{Verdict, good, bad, judged}
 use Rattle.calculus.specs.Run.{Result, run}
 use Rattle.calculus.specs.declared.Fault.{Fault}

@@ -1,8 +1,7 @@
 -- The worked images P1 to P14 with their variants, from bytes, as document 01 states them: image, words, limit, answer.
 use Rattle.std.specs.Prelude.{ℕ, ◌*◌, List, [], ◌∷◌, replicate}
-use Rattle.cells.specs.declared.Mode.TheVariants.{Checked, Unchecked}
-use Rattle.cells.specs.declared.Kind.{Kind}
-use Rattle.cells.specs.declared.Kind.TheVariants.{Int, Word, Struct, Array}
+use Rattle.cells.specs.declared.Mode.TheVariants.{Checked}
+use Rattle.cells.specs.declared.Kind.TheVariants.{Int, Struct}
 use Rattle.calculus.specs.Setting.{cell}
 use Rattle.calculus.specs.declared.End.{End}
 use Rattle.calculus.specs.declared.End.TheVariants.{Value, Halted, Stuck, More}

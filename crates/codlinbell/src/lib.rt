@@ -1,4 +1,6 @@
 // Codlinbell: the answer to an image over a lent heap, the verdict on it alone, and the C interface.
+#![tactic(auto)]
+
 mod answer;
 mod heap;
 mod host;

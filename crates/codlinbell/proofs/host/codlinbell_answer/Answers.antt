@@ -5,13 +5,11 @@ use mathlib.Core.Bool.{Bool, true, false}
 use mathlib.Core.List.{List, ◌++◌}
 use lib.ListN.{length, drop}
 use borrow.Author.Tests.{lt-ltb, le-ltb}
-use Rattle.codlinbell.specs.Answered.{Answered, answering, answered}
+use Rattle.codlinbell.specs.Answered.{answering, answered}
 use Rattle.answers.specs.Out.{Numbered, numbered, out_numbers}
 use Rattle.codlinbell.specs.Hosted.{Hosted, hosted}
 use Rattle.answers.specs.declared.Answer.{Answer}
-use borrow.Author.Rules.{rules}
-use Rattle.codlinbell.proofs.host.codlinbell_answer.Statement.{statement}
-use Rattle.codlinbell.proofs.host.codlinbell_answer.Tie as tie
+use Rattle.codlinbell.proofs.host.codlinbell_answer.Goals as goal
 
 abbrev host : Bool → List ℕ → List ℕ → Hosted
 host done ws out = record { done = done; heap = ws; out = out }
@@ -29,31 +27,8 @@ hosted_told image ws out limit {ws'} {out'} a done h e q =
     q ∙ rw (le-ltb (length out) 6 h) in
     rw (le-ltb (length out) 6 h, ← e, ap (λ (t : Numbered). t.done) p, ap (λ (t : Numbered). t.out) p)
 
-returns : tie.Need-returns
-returns c = too_short _ _ _ _ c.if1.true
+pub returns-then-out-lt6 : goal.returns-then-out-lt6
+returns-then-out-lt6 c = too_short _ _ _ _ c.if-out-lt6.true
 
-answer-within-requires : tie.Need-answer-within-requires
-answer-within-requires c κs = search rules
-
-write-numbers-requires : tie.Need-write-numbers-requires
-write-numbers-requires c κs = search rules
-
-same_length : tie.Need-same-length
-same_length c = search rules
-
-same-length-2 : tie.Need-same-length-2
-same-length-2 c = search rules
-
-returns-2 : tie.Need-returns-2
-returns-2 c = hosted_told _ _ _ _ _ _ c.before.before.before.before.before.before.before.before.if1.false c.before.before.before.before.before.before.answer_within.ensures c.before.before.write-numbers.ensures
-
-pub codlinbell_answer_spec : {M : Type 1} → statement M
-codlinbell_answer_spec =
-    tie.close
-    (tie.spec
-    returns
-    answer-within-requires
-    write-numbers-requires
-    same_length
-    same-length-2
-    returns-2)
+pub returns : goal.returns
+returns c = hosted_told _ _ _ _ _ _ c.if-out-lt6.false c.answer_within-answer.ensures c.write_numbers.ensures
