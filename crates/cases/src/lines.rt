@@ -1,56 +1,86 @@
 // Answers every test case of standard input: a line `W LIMIT HEX` is the heap's words, the steps allowed and the image, `-` where it is empty.
-ghost use Rattle.std.specs.Prelude.{◌≡◌, ◌*◌, ◌<◌, ◌≤◌, length};
+ghost use Rattle.std.specs.Prelude.{◌≡◌, ◌*◌, ◌<◌, ◌≤◌, length, IfOk};
 
 use answers::Answer;
-use libc::{STDIN_FILENO, STDOUT_FILENO};
+use std::io;
+use std::io::Read;
 use std::num::wrapping_add_u64;
 
 // A number that was read, and the offset after it.
-#[derive(Drop)]
+#[derive(Clone, Copy)]
 struct Figures {
     value: u64,
     next: usize,
 }
 
 // How many bytes of an image were read, and the offset after them.
-#[derive(Drop)]
+#[derive(Clone, Copy)]
 struct Bytes {
     count: usize,
     next: usize,
 }
 
 // Reads all of standard input, of which `make` writes no more than there is room for, and writes a line for each of its lines.
-pub fn answer_all() {
+pub fn answer_all(rt: &impl Print, input: &mut impl Read) -> io::Result<()> {
     let mut text = [0u8; 524288];
-    let read = io::read_full(STDIN_FILENO, &mut text);
+    let read = read_full(input, &mut text)?;
     let mut image = [0u8; 16385];
     let mut heap = [1311768467463790320u64; 8192];
-    answer_lines(&text[..read], &mut image, &mut heap);
+    answer_lines(rt, &text[..read], &mut image, &mut heap)
+}
+
+// Reads until `bytes` is full or the input ends, and answers how many bytes it put at the front of `bytes`.
+fn read_full(input: &mut impl Read, bytes: &mut [u8]) -> io::Result<usize>
+    ensures { IfOk result (λ n. n ≤ length bytes.new) }
+{
+    let mut done = 0;
+    while done < bytes.len() {
+        let read = input.read(&mut bytes[done..])?;
+        if read == 0 {
+            break;
+        }
+        done += read;
+    }
+    Ok(done)
 }
 
 // Answers line by line. The heap is handed on as the case before left it: no answer depends on what is in it.
-fn answer_lines(text: &[u8], image: &mut [u8; 16385], heap: &mut [u64; 8192]) {
+fn answer_lines(
+    rt: &impl Print,
+    text: &[u8],
+    image: &mut [u8; 16385],
+    heap: &mut [u64; 8192],
+) -> io::Result<()> {
     let mut at = 0;
     while at < text.len() {
         let next = after_line(text, at);
-        answer_line(&text[at..next], image, heap);
+        answer_line(rt, &text[at..next], image, heap)?;
         at = next;
     }
+    Ok(())
 }
 
 // Answers one case. A line that is not one is answered with an empty line.
-fn answer_line(line: &[u8], image: &mut [u8; 16385], heap: &mut [u64; 8192]) {
+fn answer_line(
+    rt: &impl Print,
+    line: &[u8],
+    image: &mut [u8; 16385],
+    heap: &mut [u64; 8192],
+) -> io::Result<()> {
     let words = decimal(line, 0);
     let limit = decimal(line, skip(line, words.next, b' '));
     let start = skip(line, limit.next, b' ');
     let read = decode(line, start, image);
     if words.value > 4096 {
-        return say(b"\n");
+        return say(rt, b"\n");
     }
     if !whole(line, start, read.next) {
-        return say(b"\n");
+        return say(rt, b"\n");
     }
-    tell(ask(image, read.count, heap, words.value as usize, limit.value));
+    tell(
+        rt,
+        ask(image, read.count, heap, words.value as usize, limit.value),
+    )
 }
 
 // The library's answer to the first `count` bytes of the image, over `words` words of the heap.
@@ -62,15 +92,15 @@ fn ask(image: &[u8], count: usize, heap: &mut [u64], words: usize, limit: u64) -
 }
 
 // Writes the answer's line.
-fn tell(answer: Answer) {
+fn tell(rt: &impl Print, answer: Answer) -> io::Result<()> {
     let mut line = [0u8; 128];
     let length = answers::write_line(&mut line, answer);
-    say(&line[..length]);
+    say(rt, &line[..length])
 }
 
 // Writes the bytes to standard output.
-fn say(bytes: &[u8]) {
-    io::write_all(STDOUT_FILENO, bytes);
+fn say(rt: &impl Print, bytes: &[u8]) -> io::Result<()> {
+    rt.write_all(bytes)
 }
 
 // The offset after the line that starts at `at`.
