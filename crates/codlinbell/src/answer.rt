@@ -209,7 +209,9 @@ fn judge_and_run(
     words: usize,
     limit: u64,
 ) -> Answer
-    ensures { (image : List ℕ) (c : Content) → Prepared image heap.old words c structs.now types.now cells.now nodes.now marks.old queue.old bound.old frames.old → answering result heap.new ≡ judged_then heap.old (content_verdict heap.old c) (λ _. content_run heap.old limit c) }
+    ensures { (image : List ℕ) (c : Content)
+        → Prepared image heap.old words c structs.now types.now cells.now nodes.now marks.old queue.old bound.old frames.old
+        → answering result heap.new ≡ judged_then heap.old (content_verdict heap.old c) (λ _. content_run heap.old limit c) }
 {
     match judge_script(structs, types, cells, nodes, marks, queue, bound) {
         Judged::Good(kind) => Answer::Ran(place_and_run(
@@ -231,7 +233,9 @@ fn place_and_run(
     words: usize,
     limit: u64,
 ) -> Outcome
-    ensures { (image : List ℕ) (c : Content) (marks queue : List ℕ) → Prepared image heap.old words c structs.now types.now cells.now nodes.now marks queue bound.old frames.old → answering (Answer.Ran result) heap.new ≡ ran heap.old (content_run heap.old limit c) }
+    ensures { (image : List ℕ) (c : Content) (marks queue : List ℕ)
+        → Prepared image heap.old words c structs.now types.now cells.now nodes.now marks queue bound.old frames.old
+        → answering (Answer.Ran result) heap.new ≡ ran heap.old (content_run heap.old limit c) }
 {
     clear(heap, words);
     place_cells(heap, cells);

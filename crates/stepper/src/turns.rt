@@ -75,7 +75,8 @@ pub fn advance(
     terms: StepTerms,
     s: StepState,
 ) -> StepTurn
-    ensures { turned_to result heap.new stack.new bound.new ≡ advanced rows.now structs.now types.now terms (whole_rows rows.now) s heap.old stack.old bound.old }
+    ensures { turned_to result heap.new stack.new bound.new
+        ≡ advanced rows.now structs.now types.now terms (whole_rows rows.now) s heap.old stack.old bound.old }
 {
     let mut now = s;
     // Rows without a step go forward, so that there are no more of them than rows.
