@@ -1,5 +1,6 @@
 -- Progress and preservation, in one induction: what a well-typed expression does next. It is a value of its type; or it halts; or it
 -- steps in checked code to an expression of its type over a heap that keeps every type; or it steps, or is stuck, in unchecked code.
+use Rattle.std.specs.Prelude.{Option, Some, None}
 use Prim.Native.Nat.{ℕ, ◌-◌, ◌<◌, ◌^◌}
 use mathlib.Core.Path.{◌≡◌, refl}
 use mathlib.Core.Bool.{Bool, true, false, not}
@@ -16,9 +17,6 @@ use Rattle.cells.specs.declared.Mode.TheVariants.{Checked, Unchecked}
 use Rattle.cells.specs.declared.Kind.{Kind}
 use Rattle.cells.specs.declared.Kind.TheVariants.{Int, Word, Struct, Array}
 use Rattle.cells.specs.declared.Cell.{Cell}
-use Rattle.cells.specs.declared.HeapWord.TheVariants.{Holds}
-use Rattle.cells.specs.declared.Run.{Run}
-use Rattle.cells.specs.declared.Run.TheVariants.{From, Nowhere}
 use Rattle.calculus.specs.Setting.{Setting, cell, kind_of, fields_of, size, is_checked, checked_pointer, checked_empty}
 use Rattle.calculus.specs.Expr.{Expr, lit, bind, one, two, unchecked, cast, read, field, act, Target, pointer}
 use Rattle.calculus.specs.declared.Act.{Act}
@@ -126,7 +124,7 @@ module _ {S : Setting} {H : Heap} where
 
   -- Read and assign: what is not a halt finds a well-typed word of the element's type.
   word_safe : {r : Role} {ε κ' : Kind} (n : ℕ) (κ : Kind) (go : Cell → Redex) → Typed S H access [] Checked (lit n κ) ε
-      → ((v : ℕ) → look H n ≡ Holds (cell v ε) → WellLit S H [] v ε → Safe S H r κ' (go (cell v ε)))
+      → ((v : ℕ) → look H n ≡ Some (cell v ε) → WellLit S H [] v ε → Safe S H r κ' (go (cell v ε)))
       → Safe S H r κ' (word_then H n κ go)
   unfolding word_then
   word_safe {r} {ε} {κ'} n κ go d rest =
@@ -181,18 +179,18 @@ module _ {S : Setting} {H : Heap} where
       κ : Kind
       κ = pointer Checked ω
 
-      go : (x : Run) → lowest_in (λ a. undefined (look H a)) (size S κ) S.low S.high ≡ x → Safe S H whole κ (taken_from S H κ x)
-      go (From a) q =
+      go : (x : Option ℕ) → lowest_in (λ a. undefined (look H a)) (size S κ) S.low S.high ≡ x → Safe S H whole κ (taken_from S H κ x)
+      go (Some a) q =
           safe_value (malloc_kept S H κ (size S κ) S.low S.high a 0 q)
           (t_lit (malloc_well S H κ S.low S.high a (malloc_checked ω) sized.above sized.within q))
-      go Nowhere q = safe_halt
+      go None q = safe_halt
 
   -- A cast in checked code.
   cast_safe : {m : Mode} {κ : Kind} (n : ℕ) → T (castable m κ) → m ≡ Checked → Safe S H whole κ (gives H n κ)
   cast_safe {κ} n t c = same_heap (t_base (holds_one (not (checked_pointer κ)) _ (λ q. absurd (refuted q (rw c at t)))))
 
   -- An assignment.
-  assign_safe : {v k : ℕ} {κ : Kind} (n : ℕ) → look H n ≡ Holds (cell v κ) → WellLit S H [] k κ
+  assign_safe : {v k : ℕ} {κ : Kind} (n : ℕ) → look H n ≡ Some (cell v κ) → WellLit S H [] k κ
       → Safe S H whole κ (gives (update H n (cell k κ)) k κ)
   assign_safe n there w = let k = assign_kept n there w in safe_value k (t_lit (kept_well k w))
 

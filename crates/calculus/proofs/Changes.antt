@@ -1,5 +1,6 @@
 -- What a step does to the heap: nothing, one word replaced, or a run taken. From that follow the heap's length and that a defined word
 -- stays defined, for a step and for a run.
+use Rattle.std.specs.Prelude.{Option, Some, None}
 use Prim.Native.Nat.{ℕ, zero, suc, ◌+◌, ◌≤◌, ◌<◌}
 use native.Mathlib.Decide.{ℕ_discrete}
 use mathlib.Core.Path.{◌≡◌, refl, ◌∙◌}
@@ -15,10 +16,6 @@ use Rattle.cells.specs.declared.Mode.TheVariants.{Checked}
 use Rattle.cells.specs.declared.Kind.{Kind}
 use Rattle.cells.specs.declared.Kind.TheVariants.{Int, Word, Struct, Array}
 use Rattle.cells.specs.declared.Cell.{Cell}
-use Rattle.cells.specs.declared.HeapWord.{HeapWord}
-use Rattle.cells.specs.declared.HeapWord.TheVariants.{Undefined, Holds}
-use Rattle.cells.specs.declared.Run.{Run}
-use Rattle.cells.specs.declared.Run.TheVariants.{From, Nowhere}
 use Rattle.calculus.specs.Setting.{Setting, cell, fields_of, size, is_checked, checked_pointer, checked_empty}
 use Rattle.calculus.specs.Expr.{Expr, lit, var, malloc, bind, one, two, One, unchecked, cast, read, field, act, pointer, inside}
 use Rattle.calculus.specs.Steps.{Step, done, stuck, halt, next, step, Redex, blocked, halts, gives, redex_step, defined_then, word_then, sum_redex, field_redex, taken_from, malloc_redex, one_redex, act_redex, checked_array, zeroed}
@@ -35,8 +32,8 @@ use Rattle.calculus.proofs.Every.{Every, every_value, every_stuck, every_halt, e
 -- The three ways in which a step leaves a heap: as it was; with a defined word replaced; with the lowest run of undefined words taken.
 pub data Change (S : Setting) (H : Heap) : Heap → Type 0 where
   nothing : Change S H H
-  replaced : (a : ℕ) (c : Cell) {d : Cell} → look H a ≡ Holds d → Change S H (update H a c)
-  taken : (κ : Kind) {a : ℕ} → lowest_in (λ b. undefined (look H b)) (size S κ) S.low S.high ≡ From a
+  replaced : (a : ℕ) (c : Cell) {d : Cell} → look H a ≡ Some d → Change S H (update H a c)
+  taken : (κ : Kind) {a : ℕ} → lowest_in (λ b. undefined (look H b)) (size S κ) S.low S.high ≡ Some a
       → Change S H (zeroed S κ (size S κ) a 0 H)
 
 -- What a redex leaves is such a heap.
@@ -56,16 +53,16 @@ redex_changes m (leaves_value l) = every_next l
 
 module _ (S : Setting) (H : Heap) where
   -- A read or an assign, with what it does with the word.
-  word_leaves : (n : ℕ) (κ : Kind) (go : Cell → Redex) → ((c : Cell) → look H n ≡ Holds c → Leaves S H (go c))
+  word_leaves : (n : ℕ) (κ : Kind) (go : Cell → Redex) → ((c : Cell) → look H n ≡ Some c → Leaves S H (go c))
       → Leaves S H (word_then H n κ go)
   unfolding word_then
   word_leaves n κ go rest =
       choose_case (Leaves S H) (both (checked_pointer κ) (eqb n 0)) _ _ leaves_halt
       (choose_case (Leaves S H) (checked_empty κ) _ _ leaves_halt (found (look H n) refl))
     where
-      found : (x : HeapWord) → look H n ≡ x → Leaves S H (defined_then x go)
-      found Undefined q = leaves_stuck
-      found (Holds c) q = rest c q
+      found : (x : Option Cell) → look H n ≡ x → Leaves S H (defined_then x go)
+      found None q = leaves_stuck
+      found (Some c) q = rest c q
 
   -- A node with one part that is a value.
   one_leaves : (o : One) (n : ℕ) (κ : Kind) → Leaves S H (one_redex S H o n κ)
@@ -92,9 +89,9 @@ module _ (S : Setting) (H : Heap) where
   malloc_leaves κ =
       choose_case (Leaves S H) (eqb (size S κ) 0) _ _ leaves_stuck (run_taken (lowest_in _ (size S κ) S.low S.high) refl)
     where
-      run_taken : (x : Run) → lowest_in (λ b. undefined (look H b)) (size S κ) S.low S.high ≡ x → Leaves S H (taken_from S H κ x)
-      run_taken (From a) q = leaves_value (taken κ q)
-      run_taken Nowhere q = leaves_halt
+      run_taken : (x : Option ℕ) → lowest_in (λ b. undefined (look H b)) (size S κ) S.low S.high ≡ x → Leaves S H (taken_from S H κ x)
+      run_taken (Some a) q = leaves_value (taken κ q)
+      run_taken None q = leaves_halt
 
   -- Every step's heap is such a heap, in either mode.
   pub step_changes : (m : Mode) (e : Expr) → Changes S H (step S m H e)
@@ -116,12 +113,12 @@ change_length {H} (replaced a c q) = length_update H a c
 change_length {S} {H} (taken κ {a} q) = length_zeroed S κ (size S κ) a 0 H
 
 -- A defined word of it is the same, unless it is the one replaced.
-pub change_same : {S : Setting} {H H' : Heap} → Change S H H' → (b : ℕ) (c : Cell) → look H b ≡ Holds c
-    → (look H' b ≡ Holds c) ⊎ ((d : Cell) × (H' ≡ update H b d))
+pub change_same : {S : Setting} {H H' : Heap} → Change S H H' → (b : ℕ) (c : Cell) → look H b ≡ Some c
+    → (look H' b ≡ Some c) ⊎ ((d : Cell) × (H' ≡ update H b d))
 change_same nothing b c h = inl h
 change_same {H} (replaced a d q) b c h = go (ℕ_discrete b a)
   where
-    go : Dec (b ≡ a) → (look (update H a d) b ≡ Holds c) ⊎ ((d' : Cell) × (update H a d ≡ update H b d'))
+    go : Dec (b ≡ a) → (look (update H a d) b ≡ Some c) ⊎ ((d' : Cell) × (update H a d ≡ update H b d'))
     go (yes e) = inr (d, rw e)
     go (no n) = inl (look_other H a b d n ∙ h)
 change_same {S} {H} (taken κ {a} q) b c h = inl (zeroed_other S κ (size S κ) a 0 H b outside ∙ h)
@@ -132,11 +129,11 @@ change_same {S} {H} (taken κ {a} q) b c h = inl (zeroed_other S κ (size S κ) 
         refuted f (as_true ((lowest (λ b. undefined (look H b)) (size S κ) S.high S.low a q).run.each b l m))
 
 -- It stays defined.
-pub change_defined : {S : Setting} {H H' : Heap} → Change S H H' → (b : ℕ) (c : Cell) → look H b ≡ Holds c
-    → (c' : Cell) × (look H' b ≡ Holds c')
+pub change_defined : {S : Setting} {H H' : Heap} → Change S H H' → (b : ℕ) (c : Cell) → look H b ≡ Some c
+    → (c' : Cell) × (look H' b ≡ Some c')
 change_defined {S} {H} {H'} k b c h = go (change_same k b c h)
   where
-    go : (look H' b ≡ Holds c) ⊎ ((d : Cell) × (H' ≡ update H b d)) → (c' : Cell) × (look H' b ≡ Holds c')
+    go : (look H' b ≡ Some c) ⊎ ((d : Cell) × (H' ≡ update H b d)) → (c' : Cell) × (look H' b ≡ Some c')
     go (inl e) = (c, e)
     go (inr (d, e)) = let (l, m) = look_inside H b h in (d, rw e (look_same H b d l m))
 
@@ -175,8 +172,8 @@ same_length S limit H e =
     run_changed S (λ H H'. length H' ≡ length H) (λ H. refl) (λ H H' H'' p q. q ∙ p) (λ H H' c. change_length c) limit H e
 
 -- A word that is defined before a run is defined behind it.
-pub stays_defined : (S : Setting) (limit : ℕ) (H : Heap) (e : Expr) (a : ℕ) (c : Cell) → look H a ≡ Holds c
-    → (c' : Cell) × (look (run S limit H e).heap a ≡ Holds c')
+pub stays_defined : (S : Setting) (limit : ℕ) (H : Heap) (e : Expr) (a : ℕ) (c : Cell) → look H a ≡ Some c
+    → (c' : Cell) × (look (run S limit H e).heap a ≡ Some c')
 stays_defined S limit H e a =
-    run_changed S (λ H H'. (c : Cell) → look H a ≡ Holds c → (c' : Cell) × (look H' a ≡ Holds c')) (λ H c h. (c, h))
+    run_changed S (λ H H'. (c : Cell) → look H a ≡ Some c → (c' : Cell) × (look H' a ≡ Some c')) (λ H c h. (c, h))
     (λ H H' H'' p q c h. let (c', h') = p c h in q c' h') (λ H H' k c h. change_defined k a c h) limit H e

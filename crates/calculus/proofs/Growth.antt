@@ -1,5 +1,6 @@
 -- Heaps that keep what is well typed: an assignment of a well-typed value of the word's own type, and malloc. And the pointers that
 -- steps make: malloc's own, one to some of the words of another, a sum, a field's address; and what a read finds.
+use Rattle.std.specs.Prelude.{Some}
 use mathlib.Core.Path.{◌≡◌, refl, ◌∙◌, ap}
 use mathlib.Core.Logic.{◌⊎◌, inl, inr, ⊎_elim}
 use mathlib.Core.Bool.{Bool, true, false}
@@ -19,8 +20,6 @@ use Rattle.cells.specs.declared.Mode.TheVariants.{Checked, Unchecked}
 use Rattle.cells.specs.declared.Kind.{Kind}
 use Rattle.cells.specs.declared.Kind.TheVariants.{Word, Struct, Array}
 use Rattle.cells.specs.declared.Cell.{Cell}
-use Rattle.cells.specs.declared.HeapWord.TheVariants.{Holds}
-use Rattle.cells.specs.declared.Run.TheVariants.{From}
 use Rattle.calculus.specs.Setting.{Setting, cell, fields_of, size, word_kind, checked_pointer, checked_empty}
 use Rattle.calculus.specs.Expr.{Target, to_word, to_struct, to_array, pointer}
 use Rattle.calculus.specs.Literal.{WellLit, t_base, is_base}
@@ -37,17 +36,17 @@ use Rattle.calculus.proofs.Zeroed.{look_inside, zeroed_same, zeroed_other}
 -- the word at a, which held v, is defined in H' with the same type; its value is as it was, or was well typed in H
 pub record Stays (S : Setting) (H H' : Heap) (a v : ℕ) (κ : Kind) : Type 0 where
   pub value : ℕ
-  pub there : look H' a ≡ Holds (cell value κ)
+  pub there : look H' a ≡ Some (cell value κ)
   pub fine : (value ≡ v) ⊎ WellLit S H [] value κ
 
 -- each defined word of H stays so in H'
 pub record Kept (S : Setting) (H H' : Heap) : Type 0 where
-  pub stays : (a v : ℕ) (κ : Kind) → look H a ≡ Holds (cell v κ) → Stays S H H' a v κ
+  pub stays : (a v : ℕ) (κ : Kind) → look H a ≡ Some (cell v κ) → Stays S H H' a v κ
 
 module _ {S : Setting} {H H' : Heap} (kept : Kept S H H') where
   -- A word that a well-typed literal covers has a value in H' that is well typed in H.
   kept_word : {n : ℕ} {κ : Kind} → WellLit S H [] n κ → is_base n κ ≡ false → (i : ℕ) → i < size S κ
-      → (v : ℕ) × (look H' (n + i) ≡ Holds (cell v (word_kind S κ i))) × WellLit S H [] v (word_kind S κ i)
+      → (v : ℕ) × (look H' (n + i) ≡ Some (cell v (word_kind S κ i))) × WellLit S H [] v (word_kind S κ i)
   kept_word {n} {κ} w e i l =
       let o : Covered S H n κ i = opened w e i l in
       let s : Stays S H H' (n + i) o.word (word_kind S κ i) = kept.stays (n + i) o.word (word_kind S κ i) o.there in
@@ -79,10 +78,10 @@ self_kept S H = record { stays = λ a v κ h. record { value = v; there = h; fin
 
 -- Assigning a well-typed value of the word's own type keeps the heap.
 pub assign_kept : {S : Setting} {H : Heap} (a : ℕ) {v k : ℕ} {κ : Kind}
-    → look H a ≡ Holds (cell v κ) → WellLit S H [] k κ → Kept S H (update H a (cell k κ))
+    → look H a ≡ Some (cell v κ) → WellLit S H [] k κ → Kept S H (update H a (cell k κ))
 assign_kept {S} {H} a {v} {k} {κ} h w = record { stays = λ b u κ' g. go b u κ' g (ℕ_discrete b a) }
   where
-    go : (b u : ℕ) (κ' : Kind) → look H b ≡ Holds (cell u κ') → Dec (b ≡ a) → Stays S H (update H a (cell k κ)) b u κ'
+    go : (b u : ℕ) (κ' : Kind) → look H b ≡ Some (cell u κ') → Dec (b ≡ a) → Stays S H (update H a (cell k κ)) b u κ'
     go b u κ' g (yes e) =
         let d : cell u κ' ≡ cell v κ = cc in
         let q : κ' ≡ κ = ap (λ c. c.kind) d in
@@ -92,11 +91,11 @@ assign_kept {S} {H} a {v} {k} {κ} h w = record { stays = λ b u κ' g. go b u �
 
 -- Taking a run of undefined words keeps the heap.
 pub malloc_kept : (S : Setting) (H : Heap) (κ : Kind) (k low high a i : ℕ)
-    → lowest_in (λ b. undefined (look H b)) k low high ≡ From a → Kept S H (zeroed S κ k a i H)
+    → lowest_in (λ b. undefined (look H b)) k low high ≡ Some a → Kept S H (zeroed S κ k a i H)
 malloc_kept S H κ k low high a i e =
     record { stays = λ b v κ' h. record { value = v; there = zeroed_other S κ k a i H b (outside b h) ∙ h; fine = inl refl } }
   where
-    outside : (b : ℕ) {c : Cell} → look H b ≡ Holds c → a ≤ b → b < a + k → ⊥
+    outside : (b : ℕ) {c : Cell} → look H b ≡ Some c → a ≤ b → b < a + k → ⊥
     outside b h l m =
         let f : undefined (look H b) ≡ false = rw h in
         refuted f (as_true ((lowest (λ b. undefined (look H b)) k high low a e).run.each b l m))
@@ -110,7 +109,7 @@ malloc_checked (to_array k n) = tt
 
 -- The pointer to the words that malloc took is well typed.
 pub malloc_well : (S : Setting) (H : Heap) (κ : Kind) (low high a : ℕ) → T (checked_pointer κ) → 0 < low → high ≤ length H
-    → lowest_in (λ b. undefined (look H b)) (size S κ) low high ≡ From a → WellLit S (zeroed S κ (size S κ) a 0 H) [] a κ
+    → lowest_in (λ b. undefined (look H b)) (size S κ) low high ≡ Some a → WellLit S (zeroed S κ (size S κ) a 0 H) [] a κ
 malloc_well S H κ low high a p l h e =
     let run = lowest (λ b. undefined (look H b)) (size S κ) high low a e in
     covered_well p
@@ -128,7 +127,7 @@ pub part_well : {S : Setting} {H : Heap} {n : ℕ} {κ κ' : Kind} → WellLit S
 part_well w e p k fit = covered_well p (λ i l. let (m, q) = fit i l in rw (add_assoc, ← q) (opened w e (k + i) m))
 
 -- Where the sum of an address and a number is the address of a defined word, it does not wrap.
-pub added_inside : (S : Setting) (H : Heap) (n k : ℕ) {c : Cell} → length H < 2 ^ S.width → look H (n + k) ≡ Holds c
+pub added_inside : (S : Setting) (H : Heap) (n k : ℕ) {c : Cell} → length H < 2 ^ S.width → look H (n + k) ≡ Some c
     → added S n k ≡ n + k
 added_inside S H n k b h = mod-eq_of_lt (omega (arith, look_inside H (n + k) h))
 

@@ -2,6 +2,7 @@
 -- that holds every word that one of them covers: each literal that the test puts into the scope behind the first is another word of
 -- the heap, so the number of words whose cells are not in the scope yet bounds the depth. Hence the literals of such a set are well
 -- typed, and a literal is well typed exactly if all that is reached from it is good.
+use Rattle.std.specs.Prelude.{Option, Some, None}
 use mathlib.Core.Path.{◌≡◌, refl}
 use mathlib.Core.Logic.{⊎_elim, ◌↔◌}
 use mathlib.Core.Bool.{Bool, true, false}
@@ -17,8 +18,6 @@ use Rattle.cells.specs.Lent.{value_in}
 use Rattle.cells.specs.Same.{same_kind, same_cell}
 use Rattle.cells.specs.declared.Kind.{Kind}
 use Rattle.cells.specs.declared.Cell.{Cell}
-use Rattle.cells.specs.declared.HeapWord.{HeapWord}
-use Rattle.cells.specs.declared.HeapWord.TheVariants.{Undefined, Holds}
 use Rattle.calculus.specs.Setting.{Setting, cell, size, word_kind}
 use Rattle.calculus.specs.Literal.{WellLit, t_base, t_vconst, t_ptrc, is_base, in_scope, holds_well, well_lit, literal_well}
 use Rattle.calculus.proofs.Same.{holds, refuted, both_holds, holds_both, one_holds, holds_one, neither, same_kind_lem, kind_same, not_held, in_scope_lem, scope_in, each_below, below_each}
@@ -26,13 +25,13 @@ use Rattle.calculus.specs.Reach.{Good, good_base, good_words, Covers, Reach, its
 use Rattle.calculus.proofs.Scope.{base_pointer, well_good, covers_well, reach_well}
 
 -- A word that passes holds its value with that kind, and the value passes.
-holds_well_lem : (w : HeapWord) (κ : Kind) (well : ℕ → Kind → Bool) → T (holds_well w κ well)
-    → (w ≡ Holds (cell (value_in w) κ)) × T (well (value_in w) κ)
-holds_well_lem Undefined κ well h = absurd h
-holds_well_lem (Holds c) κ well h =
+holds_well_lem : (w : Option Cell) (κ : Kind) (well : ℕ → Kind → Bool) → T (holds_well w κ well)
+    → (w ≡ Some (cell (value_in w) κ)) × T (well (value_in w) κ)
+holds_well_lem None κ well h = absurd h
+holds_well_lem (Some c) κ well h =
     let (s, t) = both_holds (same_kind c.kind κ) (well c.value κ) h in
     let e : c.kind ≡ κ = same_kind_lem c.kind κ s in
-    (λ i. Holds (record { value = c.value; kind = e i }), t)
+    (λ i. Some (record { value = c.value; kind = e i }), t)
 
 module _ (S : Setting) (H : Heap) where
   -- T-PtrC's test: each word that the literal covers passes, one deeper
@@ -52,7 +51,7 @@ module _ (S : Setting) (H : Heap) where
       t_ptrc (λ i. value_in (look H (n + i))) (base_pointer n κ e) (λ i l. (passed i l).0) (λ i l. well _ _ (passed i l).1)
     where
       passed : (i : ℕ) → i < size S κ
-          → (look H (n + i) ≡ Holds (cell (value_in (look H (n + i))) (word_kind S κ i)))
+          → (look H (n + i) ≡ Some (cell (value_in (look H (n + i))) (word_kind S κ i)))
           × T (well_lit S H deep (cell n κ ∷ σ) (value_in (look H (n + i))) (word_kind S κ i))
       passed i l = holds_well_lem (look H (n + i)) (word_kind S κ i) (well_lit S H deep (cell n κ ∷ σ)) (each_below _ (size S κ) h i l)
 
@@ -84,9 +83,9 @@ module _ (S : Setting) (H : Heap) where
           (each (cell (v i) (word_kind S κ i)) f (record { at = i; pointer = e; inside = l; there = there i l }))))
 
 -- one for a word whose cell is not in the scope
-pub fresh_word : List Cell → HeapWord → ℕ
-fresh_word σ Undefined = 0
-fresh_word σ (Holds c) = choose (in_scope c σ) (λ _. 0) (λ _. 1)
+pub fresh_word : List Cell → Option Cell → ℕ
+fresh_word σ None = 0
+fresh_word σ (Some c) = choose (in_scope c σ) (λ _. 0) (λ _. 1)
 
 -- how many words of a heap have a cell that is not in the scope
 pub fresh : List Cell → Heap → ℕ
@@ -94,10 +93,10 @@ fresh σ [] = 0
 fresh σ (w ∷ H) = fresh_word σ w + fresh σ H
 
 -- A word counts once at most.
-pub fresh_word_lem : (σ : List Cell) (w : HeapWord) → fresh_word σ w ≤ 1
+pub fresh_word_lem : (σ : List Cell) (w : Option Cell) → fresh_word σ w ≤ 1
 unfolding fresh_word
-fresh_word_lem σ Undefined = omega arith
-fresh_word_lem σ (Holds c) = choose_case (λ n. n ≤ 1) (in_scope c σ) (λ _. 0) (λ _. 1) (omega arith) (omega arith)
+fresh_word_lem σ None = omega arith
+fresh_word_lem σ (Some c) = choose_case (λ n. n ≤ 1) (in_scope c σ) (λ _. 0) (λ _. 1) (omega arith) (omega arith)
 
 -- They are at most all words.
 pub fresh_all : (σ : List Cell) (H : Heap) → fresh σ H ≤ length H
@@ -107,10 +106,10 @@ fresh_all σ (w ∷ H) = omega (arith, fresh_word_lem σ w, fresh_all σ H)
 
 module _ (c : Cell) (σ : List Cell) where
   -- One more literal in the scope makes no word count that did not.
-  less_word : (w : HeapWord) → fresh_word (c ∷ σ) w ≤ fresh_word σ w
+  less_word : (w : Option Cell) → fresh_word (c ∷ σ) w ≤ fresh_word σ w
   unfolding fresh_word in_scope
-  less_word Undefined = omega arith
-  less_word (Holds d) = go (same_cell d c) (in_scope d σ)
+  less_word None = omega arith
+  less_word (Some d) = go (same_cell d c) (in_scope d σ)
     where
       go : (s t : Bool) → choose (either s t) (λ _. 0) (λ _. 1) ≤ choose {A = ℕ} t (λ _. 0) (λ _. 1)
       go true t = omega arith
@@ -123,14 +122,14 @@ module _ (c : Cell) (σ : List Cell) where
   fresh_less (w ∷ H) = omega (arith, less_word w, fresh_less H)
 
   -- The word that holds the literal itself counts no more.
-  falls_word : (w : HeapWord) → in_scope c σ ≡ false → w ≡ Holds c → fresh_word (c ∷ σ) w < fresh_word σ w
+  falls_word : (w : Option Cell) → in_scope c σ ≡ false → w ≡ Some c → fresh_word (c ∷ σ) w < fresh_word σ w
   unfolding fresh_word
   falls_word w e h =
       let f : in_scope c (c ∷ σ) ≡ true = holds (in_scope c (c ∷ σ)) (scope_in c (c ∷ σ) (Memᴰ.head refl)) in
       rw (h, e, f) (omega arith)
 
   -- So the number falls if the literal is a word of the heap and was not in the scope.
-  pub fresh_falls : (H : Heap) (a : ℕ) → in_scope c σ ≡ false → look H a ≡ Holds c → fresh (c ∷ σ) H < fresh σ H
+  pub fresh_falls : (H : Heap) (a : ℕ) → in_scope c σ ≡ false → look H a ≡ Some c → fresh (c ∷ σ) H < fresh σ H
   unfolding fresh look
   fresh_falls H zero e h = absurd (not_held h)
   fresh_falls [] (suc i) e h = absurd (not_held h)
@@ -141,7 +140,7 @@ module _ (c : Cell) (σ : List Cell) where
 module _ (S : Setting) (H : Heap) (P : Cell → Type 0)
     (good : (c : Cell) → P c → Good S H c.value c.kind) (closed : (c d : Cell) → P c → Covers S H c d → P d) where
   -- A literal of the set that is a word of the heap passes at the depth of the words not in the scope.
-  fresh_test : (deep : ℕ) (σ : List Cell) (c : Cell) (a : ℕ) → P c → look H a ≡ Holds c → fresh σ H ≤ deep
+  fresh_test : (deep : ℕ) (σ : List Cell) (c : Cell) (a : ℕ) → P c → look H a ≡ Some c → fresh σ H ≤ deep
       → T (well_lit S H deep σ c.value c.kind)
   unfolding well_lit
   fresh_test zero σ c a p h l =

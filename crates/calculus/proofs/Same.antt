@@ -1,6 +1,7 @@
 -- What the tests of the definitions say: `same_mode`, `same_kind` and `same_cell` decide equality, `in_scope` decides membership, and
 -- `all_from` tests each number. A test t is spoken of as `T t`: `holds` and `as_true` carry that to `t ≡ true` and back, `fails` and
 -- `refuted` carry `T t → ⊥` to `t ≡ false` and back.
+use Rattle.std.specs.Prelude.{Some, None}
 use mathlib.Core.Path.{◌≡◌, refl}
 use mathlib.Core.Logic.{◌⊎◌, inl, inr, ⊎_elim}
 use mathlib.Core.Bool.{Bool, true, false}
@@ -16,7 +17,6 @@ use Rattle.cells.specs.declared.Mode.TheVariants.{Checked, Unchecked}
 use Rattle.cells.specs.declared.Kind.{Kind}
 use Rattle.cells.specs.declared.Kind.TheVariants.{Int, Word, Struct, Array}
 use Rattle.cells.specs.declared.Cell.{Cell}
-use Rattle.cells.specs.declared.HeapWord.TheVariants.{Undefined, Holds}
 use Rattle.calculus.specs.Literal.{in_scope}
 
 -- A test that holds is true.
@@ -138,7 +138,7 @@ cell_same c d e =
     rw e (holds_both (eqb d.value d.value) (same_kind d.kind d.kind) (eqb_refl d.value) (kind_same d.kind))
 
 -- An undefined word holds no cell.
-pub not_held : {c : Cell} → Undefined ≡ Holds c → ⊥
+pub not_held : {c : Cell} → None ≡ Some c → ⊥
 not_held e = let z : ◌≡◌ {A = ℕ} 0 1 = cc in omega arith
 
 -- What passes as in the scope is a member of it.

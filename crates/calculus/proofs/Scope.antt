@@ -1,6 +1,7 @@
 -- The judgement of literals and its scope: a larger scope serves as well; a literal of the scope may be replaced by its own
 -- derivation; so the words that a literal covers are well typed in the empty scope if it is. Then that whatever is reached from a
 -- well-typed literal is well typed, and good.
+use Rattle.std.specs.Prelude.{Some}
 use mathlib.Core.Path.{◌≡◌}
 use mathlib.Core.Logic.{⊎_elim}
 use mathlib.Core.Bool.{Bool, true, false, not}
@@ -14,7 +15,6 @@ use Rattle.cells.specs.Heap.{Heap, look}
 use Rattle.cells.specs.Lent.{value_in}
 use Rattle.cells.specs.declared.Kind.{Kind}
 use Rattle.cells.specs.declared.Cell.{Cell}
-use Rattle.cells.specs.declared.HeapWord.TheVariants.{Holds}
 use Rattle.calculus.specs.Setting.{Setting, cell, size, word_kind, checked_pointer, checked_empty}
 use Rattle.calculus.specs.Literal.{WellLit, t_base, t_vconst, t_ptrc, is_base}
 use Rattle.calculus.specs.Reach.{Good, good_base, good_words, Covers, Reach, itself, further}
@@ -45,7 +45,7 @@ more sub c m = ⊎_elim (λ e. Memᴰ.head e) (λ r. Memᴰ.tail (sub c r)) (Mem
 -- the word at a is defined, has exactly the type ε, and is well typed in the empty scope
 pub record Defined (S : Setting) (H : Heap) (a : ℕ) (ε : Kind) : Type 0 where
   pub word : ℕ
-  pub there : look H a ≡ Holds (cell word ε)
+  pub there : look H a ≡ Some (cell word ε)
   pub well : WellLit S H [] word ε
 
 -- so is the i-th word that a literal covers, with exactly the target's word type there

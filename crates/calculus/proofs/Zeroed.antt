@@ -1,4 +1,5 @@
 -- What malloc does to a heap: the words of a heap after `zeroed`.
+use Rattle.std.specs.Prelude.{Some}
 use mathlib.Core.Path.{◌≡◌, refl, ◌∙◌}
 use mathlib.Core.List.{[], ◌∷◌}
 use Prim.Native.Nat.{ℕ, zero, suc, ◌+◌, ◌≤◌, ◌<◌}
@@ -8,14 +9,13 @@ use lib.ListN.{length}
 use Rattle.cells.specs.Heap.{Heap, look, update}
 use Rattle.cells.specs.declared.Kind.{Kind}
 use Rattle.cells.specs.declared.Cell.{Cell}
-use Rattle.cells.specs.declared.HeapWord.TheVariants.{Holds}
 use Rattle.calculus.specs.Setting.{Setting, cell, word_kind}
 use Rattle.calculus.specs.Steps.{zeroed}
 use Rattle.calculus.proofs.Same.{not_held}
 use Rattle.cells.proofs.Heaps.{length_update, look_same, look_other}
 
 -- A defined word has an address of the heap.
-pub look_inside : (H : Heap) (a : ℕ) {c : Cell} → look H a ≡ Holds c → (0 < a) × (a ≤ length H)
+pub look_inside : (H : Heap) (a : ℕ) {c : Cell} → look H a ≡ Some c → (0 < a) × (a ≤ length H)
 unfolding look
 look_inside H zero h = absurd (not_held h)
 look_inside [] (suc i) h = absurd (not_held h)
@@ -40,7 +40,7 @@ module _ (S : Setting) (κ : Kind) where
 
   -- A word of the run is a zero of the target's type there.
   pub zeroed_same : (k a i : ℕ) (H : Heap) (j : ℕ) → j < k → 0 < a → a + k ≤ length H + 1
-      → look (zeroed S κ k a i H) (a + j) ≡ Holds (cell 0 (word_kind S κ (i + j)))
+      → look (zeroed S κ k a i H) (a + j) ≡ Some (cell 0 (word_kind S κ (i + j)))
   unfolding zeroed
   zeroed_same zero a i H j l p m = absurd (omega arith)
   zeroed_same (suc k) a i H zero l p m =

@@ -1,13 +1,11 @@
 -- "A literal has its annotated type." When it is well typed over a heap, as the paper's rules have it, and as a test.
-use Rattle.std.specs.Prelude.{ℕ, zero, suc, ◌+◌, ◌<◌, ◌≡◌, Bool, true, false, not, T, eqb, length}
+use Rattle.std.specs.Prelude.{ℕ, zero, suc, ◌+◌, ◌<◌, ◌≡◌, Bool, true, false, not, T, eqb, length, Option, Some, None}
 use mathlib.Core.List.{List, [], ◌∷◌, Memᴰ}
 use Rattle.choice.specs.Choice.{choose, both, either, all_from}
 use Rattle.cells.specs.Heap.{Heap, look}
 use Rattle.cells.specs.Same.{same_kind, same_cell}
 use Rattle.cells.specs.declared.Kind.{Kind}
 use Rattle.cells.specs.declared.Cell.{Cell}
-use Rattle.cells.specs.declared.HeapWord.{HeapWord}
-use Rattle.cells.specs.declared.HeapWord.TheVariants.{Undefined, Holds}
 use Rattle.calculus.specs.Setting.{Setting, cell, size, word_kind, checked_pointer, checked_empty}
 
 -- "that is int, an unchecked pointer, a checked pointer to an array of 0, or the value is 0"
@@ -23,7 +21,7 @@ pub data WellLit (S : Setting) (H : Heap) : List Cell → ℕ → Kind → Type 
   -- T-PtrC: "or if it is a checked pointer and each word that its target covers is defined, has exactly the target's word type there,
   -- and is itself well typed with this literal added to the scope"; v i is the i-th such word's value
   t_ptrc : {σ : List Cell} {n : ℕ} {κ : Kind} (v : ℕ → ℕ) → T (checked_pointer κ)
-      → ((i : ℕ) → i < size S κ → look H (n + i) ≡ Holds (cell (v i) (word_kind S κ i)))
+      → ((i : ℕ) → i < size S κ → look H (n + i) ≡ Some (cell (v i) (word_kind S κ i)))
       → ((i : ℕ) → i < size S κ → WellLit S H (cell n κ ∷ σ) (v i) (word_kind S κ i))
       → WellLit S H σ n κ
 
@@ -33,9 +31,9 @@ in_scope c [] = false
 in_scope c (d ∷ σ) = either (same_cell c d) (in_scope c σ)
 
 -- the word is defined, has the word type κ, and passes the test
-abbrev pub holds_well : HeapWord → Kind → (ℕ → Kind → Bool) → Bool
-holds_well Undefined κ well = false
-holds_well (Holds c) κ well = both (same_kind c.kind κ) (well c.value κ)
+abbrev pub holds_well : Option Cell → Kind → (ℕ → Kind → Bool) → Bool
+holds_well None κ well = false
+holds_well (Some c) κ well = both (same_kind c.kind κ) (well c.value κ)
 
 -- The test: the rules are tried in the judgement's order, each T-PtrC one deeper. Every literal that T-PtrC adds to the scope behind
 -- the first is another word of the heap, so no derivation has to be deeper than the heap has words, and one.

@@ -1,6 +1,6 @@
 -- Steps by replacement (section 3.2): "Leftmost part first, nothing under a let's body. A step is unchecked exactly if its redex lies
 -- inside an unchecked block; unwrapping a block in checked code is a checked step."
-use Rattle.std.specs.Prelude.{ℕ, zero, suc, pred, ◌+◌, ◌-◌, ◌%◌, ◌^◌, Bool, false, eqb, ltb, length, get_or}
+use Rattle.std.specs.Prelude.{ℕ, zero, suc, pred, ◌+◌, ◌-◌, ◌%◌, ◌^◌, Bool, false, eqb, ltb, length, get_or, Option, Some, None}
 use Rattle.choice.specs.Choice.{choose, both}
 use Rattle.cells.specs.Heap.{Heap, look, update, undefined}
 use Rattle.cells.specs.Free.{lowest_in}
@@ -9,10 +9,6 @@ use Rattle.cells.specs.declared.Mode.TheVariants.{Checked, Unchecked}
 use Rattle.cells.specs.declared.Kind.{Kind}
 use Rattle.cells.specs.declared.Kind.TheVariants.{Int, Word, Struct, Array}
 use Rattle.cells.specs.declared.Cell.{Cell}
-use Rattle.cells.specs.declared.HeapWord.{HeapWord}
-use Rattle.cells.specs.declared.HeapWord.TheVariants.{Undefined, Holds}
-use Rattle.cells.specs.declared.Run.{Run}
-use Rattle.cells.specs.declared.Run.TheVariants.{From, Nowhere}
 use Rattle.calculus.specs.Setting.{Setting, cell, fields_of, size, word_kind, is_checked, checked_pointer, checked_empty}
 use Rattle.calculus.specs.Expr.{Expr, lit, var, malloc, bind, one, two, One, unchecked, cast, read, field, act, pointer, inside}
 use Rattle.calculus.specs.declared.Act.{Act}
@@ -50,9 +46,9 @@ sum_redex S H n κ k =
     choose (both (checked_array κ) (eqb n 0)) (λ _. halts Null) (λ _. gives H (added S n k) (fallen κ k))
 
 -- no rule fits an undefined word
-abbrev pub defined_then : HeapWord → (Cell → Redex) → Redex
-defined_then Undefined go = blocked
-defined_then (Holds c) go = go c
+abbrev pub defined_then : Option Cell → (Cell → Redex) → Redex
+defined_then None go = blocked
+defined_then (Some c) go = go c
 
 -- the word at v = n for a read or an assign: "a checked pointer with v = 0 halts with Null; then a checked pointer to an array of 0
 -- halts with Bounds; then v undefined in the heap is Stuck; otherwise" go on with the word
@@ -91,9 +87,9 @@ zeroed S κ zero a i H = H
 zeroed S κ (suc k) a i H = zeroed S κ k (suc a) (suc i) (update H a (cell 0 (word_kind S κ i)))
 
 -- the run becomes the target's words
-abbrev pub taken_from : Setting → Heap → Kind → Run → Redex
-taken_from S H κ (From a) = gives (zeroed S κ (size S κ) a 0 H) a κ
-taken_from S H κ Nowhere = halts Room
+abbrev pub taken_from : Setting → Heap → Kind → Option ℕ → Redex
+taken_from S H κ (Some a) = gives (zeroed S κ (size S κ) a 0 H) a κ
+taken_from S H κ None = halts Room
 
 -- E-Malloc: "the lowest run of k consecutive undefined addresses within 1 to W becomes k zeros of the target's types. Room is given
 -- exactly if no such run exists."

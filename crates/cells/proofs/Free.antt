@@ -1,8 +1,6 @@
 -- Of runs of free addresses: when one begins at an address, how the search for the lowest goes on, and what it gives.
-use Rattle.std.proofs.Common.{◌≡◌, ℕ, zero, suc, ◌+◌, ◌-◌, ◌<◌, ◌≤◌, Bool, true, false, ◌⊎◌, sym, refl, ◌∙◌, ⊎_elim, eq-or-lt_of_le, arith}
+use Rattle.std.proofs.Common.{◌≡◌, ℕ, zero, suc, ◌+◌, ◌-◌, ◌<◌, ◌≤◌, Bool, true, false, ◌⊎◌, sym, refl, ◌∙◌, ⊎_elim, eq-or-lt_of_le, arith, Option, Some, None}
 use Rattle.choice.specs.Choice.{choose, all_from}
-use Rattle.cells.specs.declared.Run.{Run}
-use Rattle.cells.specs.declared.Run.TheVariants.{From, Nowhere}
 use Rattle.cells.specs.Free.{first_run, lowest_in}
 
 -- the k addresses from a on are free, each of them
@@ -54,11 +52,11 @@ module _ (free : ℕ → Bool) where
   run_ends k a b l m h = not_true (all_from free k a) (λ r. clash ((vacant k a r).each b l m) h)
 
   -- the first start of a search: none is left, a run begins, or none does
-  at_none : (k a n : ℕ) → n ≡ 0 → first_run free k n a ≡ Nowhere
+  at_none : (k a n : ℕ) → n ≡ 0 → first_run free k n a ≡ None
   unfolding first_run
   at_none k a n z = rw z
 
-  at_run : (k a n : ℕ) → 0 < n → all_from free k a ≡ true → first_run free k n a ≡ From a
+  at_run : (k a n : ℕ) → 0 < n → all_from free k a ≡ true → first_run free k n a ≡ Some a
   unfolding first_run
   at_run k a zero l r = absurd (omega arith)
   at_run k a (suc n) l r = rw r
@@ -69,11 +67,11 @@ module _ (free : ℕ → Bool) where
   at_other k a (suc n) n' e r = let z : n' ≡ n = omega arith in rw (z, r)
 
   -- a search ends where no room is left
-  pub no_room : (k a high : ℕ) → high + 1 < a + k → lowest_in free k a high ≡ Nowhere
+  pub no_room : (k a high : ℕ) → high + 1 < a + k → lowest_in free k a high ≡ None
   no_room k a high l = at_none k a _ (omega arith)
 
   -- a search ends where a run begins
-  pub begins : (k a high : ℕ) → a + k ≤ high + 1 → all_from free k a ≡ true → lowest_in free k a high ≡ From a
+  pub begins : (k a high : ℕ) → a + k ≤ high + 1 → all_from free k a ≡ true → lowest_in free k a high ≡ Some a
   begins k a high l r = at_run k a _ (omega arith) r
 
   -- a search passes a start that begins no run
@@ -99,16 +97,16 @@ pub record Lowest (free : ℕ → Bool) (k low high a : ℕ) : Type 0 where
 pub record NoRun (free : ℕ → Bool) (k low high : ℕ) : Type 0 where
   pub none : (s : ℕ) → low ≤ s → s + k ≤ high + 1 → Vacant free k s → ⊥
 
-data Found (free : ℕ → Bool) (k low high : ℕ) : Run → Type 0 where
-  found : {a : ℕ} → Lowest free k low high a → Found free k low high (From a)
-  found_none : NoRun free k low high → Found free k low high Nowhere
+data Found (free : ℕ → Bool) (k low high : ℕ) : Option ℕ → Type 0 where
+  found : {a : ℕ} → Lowest free k low high a → Found free k low high (Some a)
+  found_none : NoRun free k low high → Found free k low high None
 
 module _ (free : ℕ → Bool) (k high : ℕ) where
   -- a start from low on that begins a run comes after low, if none begins there
   later : (low s : ℕ) → all_from free k low ≡ false → low ≤ s → Vacant free k s → suc low ≤ s
   later low s n l v = ⊎_elim (λ e. absurd (clash (all_free free k s v) (rw e at n))) (λ h. h) (eq-or-lt_of_le l)
 
-  passed : (low : ℕ) {r : Run} → all_from free k low ≡ false → Found free k (suc low) high r → Found free k low high r
+  passed : (low : ℕ) {r : Option ℕ} → all_from free k low ≡ false → Found free k (suc low) high r → Found free k low high r
   passed low n (found {a} m) =
       found
       {a = a}
@@ -121,7 +119,7 @@ module _ (free : ℕ → Bool) (k high : ℕ) where
   search_finds (suc n) low e = go (all_from free k low) refl (search_finds n (suc low) (omega arith))
     where
       go : (t : Bool) → all_from free k low ≡ t → Found free k (suc low) high (first_run free k n (suc low))
-          → Found free k low high (choose t (λ _. From low) (λ _. first_run free k n (suc low)))
+          → Found free k low high (choose t (λ _. Some low) (λ _. first_run free k n (suc low)))
       go true r f =
           found
           {a = low}
@@ -132,17 +130,17 @@ module _ (free : ℕ → Bool) (k high : ℕ) where
   finds low = search_finds _ low (omega arith)
 
   -- what a search finds is the lowest run
-  pub lowest : (low a : ℕ) → lowest_in free k low high ≡ From a → Lowest free k low high a
+  pub lowest : (low a : ℕ) → lowest_in free k low high ≡ Some a → Lowest free k low high a
   lowest low a e = go (rw e at (finds low))
     where
-      go : Found free k low high (From a) → Lowest free k low high a
+      go : Found free k low high (Some a) → Lowest free k low high a
       go (found m) = m
 
   -- where a search finds nothing there is no run
-  pub no_run : (low : ℕ) → lowest_in free k low high ≡ Nowhere → NoRun free k low high
+  pub no_run : (low : ℕ) → lowest_in free k low high ≡ None → NoRun free k low high
   no_run low e = go (rw e at (finds low))
     where
-      go : Found free k low high Nowhere → NoRun free k low high
+      go : Found free k low high None → NoRun free k low high
       go (found_none m) = m
 
 module _ (free : ℕ → Bool) (k high : ℕ) where

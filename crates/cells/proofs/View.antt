@@ -1,5 +1,5 @@
 -- The view of a lent heap: what reads, stores, clearings and searches of the numbers are on the heap that they hold.
-use Rattle.std.proofs.Common.{◌≡◌, ℕ, zero, suc, ◌+◌, ◌*◌, ◌/◌, ◌<◌, ◌≤◌, min, ltb, List, [], ◌∷◌, ◌++◌, length, get_or, drop, set, replicate, refl, ap, arith, length-append, length-drop, length-set, drop_at, lt-ltb, ne_eqb}
+use Rattle.std.proofs.Common.{◌≡◌, ℕ, zero, suc, ◌+◌, ◌*◌, ◌/◌, ◌<◌, ◌≤◌, min, ltb, List, [], ◌∷◌, ◌++◌, length, get_or, drop, set, replicate, refl, ap, arith, length-append, length-drop, length-set, drop_at, lt-ltb, ne_eqb, Option, Some, None}
 use lib.ListN.{length-replicate}
 use Rattle.choice.specs.Choice.{choose_case}
 use Rattle.cells.specs.Code.{packed, as_word}
@@ -7,8 +7,6 @@ use Rattle.cells.specs.Heap.{Heap, look, update, undefined, SmallWord, small_hel
 use Rattle.cells.specs.Free.{lowest_in}
 use Rattle.cells.specs.Lent.{word_at, lent_number, put_word, stored, cleared, lowest_run, value_in, code_in, numbers_of, lent}
 use Rattle.cells.specs.declared.Cell.{Cell}
-use Rattle.cells.specs.declared.HeapWord.{HeapWord}
-use Rattle.cells.specs.declared.HeapWord.TheVariants.{Undefined, Holds}
 use Rattle.cells.proofs.Codes.{round_trip, packed_not_zero}
 use Rattle.cells.proofs.Free.{lowest_same}
 
@@ -24,34 +22,34 @@ unfolding numbers_of
 length_numbers [] = refl
 length_numbers (w ∷ H) = rw (length_numbers H) (omega arith)
 
-value_at : (H : Heap) (rest : List ℕ) (i : ℕ) → i < length H → get_or (numbers_of H ++ rest) (2 * i) 0 ≡ value_in (get_or H i Undefined)
+value_at : (H : Heap) (rest : List ℕ) (i : ℕ) → i < length H → get_or (numbers_of H ++ rest) (2 * i) 0 ≡ value_in (get_or H i None)
 unfolding numbers_of
 value_at [] rest i l = absurd (omega arith)
 value_at (w ∷ H) rest zero l = refl
 value_at (w ∷ H) rest (suc i) l = rw twice (value_at H rest i (omega arith))
 
-code_at : (H : Heap) (rest : List ℕ) (i : ℕ) → i < length H → get_or (numbers_of H ++ rest) (2 * i + 1) 0 ≡ code_in (get_or H i Undefined)
+code_at : (H : Heap) (rest : List ℕ) (i : ℕ) → i < length H → get_or (numbers_of H ++ rest) (2 * i + 1) 0 ≡ code_in (get_or H i None)
 unfolding numbers_of
 code_at [] rest i l = absurd (omega arith)
 code_at (w ∷ H) rest zero l = refl
 code_at (w ∷ H) rest (suc i) l = rw twice_more (code_at H rest i (omega arith))
 
 set_numbers : (H : Heap) (rest : List ℕ) (i : ℕ) (c : Cell) → i < length H
-    → set (set (numbers_of H ++ rest) (2 * i) c.value) (2 * i + 1) (packed c.kind) ≡ numbers_of (set H i (Holds c)) ++ rest
+    → set (set (numbers_of H ++ rest) (2 * i) c.value) (2 * i + 1) (packed c.kind) ≡ numbers_of (set H i (Some c)) ++ rest
 unfolding numbers_of
 set_numbers [] rest i c l = absurd (omega arith)
 set_numbers (w ∷ H) rest zero c l = refl
 set_numbers (w ∷ H) rest (suc i) c l =
     rw (twice_more, twice) (ap (λ (t : List ℕ). value_in w ∷ code_in w ∷ t) (set_numbers H rest i c (omega arith)))
 
-no_numbers : (n : ℕ) → replicate (2 * n) 0 ≡ numbers_of (replicate n Undefined)
+no_numbers : (n : ℕ) → replicate (2 * n) 0 ≡ numbers_of (replicate n None)
 unfolding numbers_of
 no_numbers zero = refl
 no_numbers (suc n) = rw (twice, no_numbers n)
 
-back : (w : HeapWord) → SmallWord w → as_word (value_in w) (code_in w) ≡ w
-back Undefined s = refl
-back (Holds c) (small_held s) = rw (ne_eqb (packed c.kind) 0 (packed_not_zero c.kind), round_trip s)
+back : (w : Option Cell) → SmallWord w → as_word (value_in w) (code_in w) ≡ w
+back None s = refl
+back (Some c) (small_held s) = rw (ne_eqb (packed c.kind) 0 (packed_not_zero c.kind), round_trip s)
 
 -- ---- lent numbers that hold a heap
 -- the word at an address is the heap's
@@ -60,7 +58,7 @@ unfolding word_at look
 word_lent H ws zero s l = refl
 word_lent H ws (suc i) s l =
     let rest : List ℕ = drop (2 * length H) ws in
-    rw (value_at H rest i l, code_at H rest i l) (back (get_or H i Undefined) (s.each (suc i)))
+    rw (value_at H rest i l, code_at H rest i l) (back (get_or H i None) (s.each (suc i)))
 
 -- the numbers are as many as before
 pub length_lent : (H : Heap) (ws : List ℕ) → 2 * length H ≤ length ws → length (lent H ws) ≡ length ws
@@ -113,7 +111,7 @@ unfolding stored
 length_stored ws a c = length_put ws a c.value (packed c.kind)
 
 -- to clear the first words is to lend a heap of undefined words
-pub cleared_lent : (ws : List ℕ) (n : ℕ) → 2 * n ≤ length ws → cleared ws n ≡ lent (replicate n Undefined) ws
+pub cleared_lent : (ws : List ℕ) (n : ℕ) → 2 * n ≤ length ws → cleared ws n ≡ lent (replicate n None) ws
 cleared_lent ws n l = let e : min n (length ws / 2) ≡ n = omega arith in rw (e, length-replicate, no_numbers n)
 
 -- the lowest run in the numbers is the heap's

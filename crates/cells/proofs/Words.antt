@@ -1,13 +1,12 @@
 -- The numbers of the word at an address and those after one is put there, opened as the code comes by them: at a word's place, and where
 -- there is no word.
-use Rattle.std.proofs.Common.{◌≡◌, ℕ, zero, suc, ◌+◌, ◌*◌, ◌/◌, ◌<◌, Bool, true, false, eqb, ltb, List, length, get_or, set, refl, arith, le-ltb, lt-ltb}
+use Rattle.std.proofs.Common.{◌≡◌, ℕ, zero, suc, ◌+◌, ◌*◌, ◌/◌, ◌<◌, Bool, true, false, eqb, ltb, List, length, get_or, set, refl, arith, le-ltb, lt-ltb, Some, None}
 use native.Mathlib.Decide.{dec_lt}
 use lib.ListN.{get_or-eq_default}
 use Rattle.choice.specs.Choice.{choose}
 use Rattle.cells.specs.Code.{as_word, unpacked}
 use Rattle.cells.specs.Heap.{undefined}
 use Rattle.cells.specs.Lent.{word_at, lent_number, put_word}
-use Rattle.cells.specs.declared.HeapWord.TheVariants.{Undefined, Holds}
 
 module _ (ws : List ℕ) where
   -- the word at address i + 1 has its numbers at 2i and 2i + 1
@@ -48,7 +47,7 @@ module _ (ws : List ℕ) where
 undefined_code : (value code : ℕ) → undefined (as_word value code) ≡ eqb code 0
 undefined_code value code = go (eqb code 0)
   where
-    go : (t : Bool) → undefined (choose t (λ _. Undefined) (λ _. Holds (record { value = value; kind = unpacked code }))) ≡ t
+    go : (t : Bool) → undefined (choose t (λ _. None) (λ _. Some (record { value = value; kind = unpacked code }))) ≡ t
     go true = refl
     go false = refl
 

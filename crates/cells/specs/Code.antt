@@ -1,13 +1,12 @@
 -- A kind as one number: the tag is the rest by 8 (0 undefined, 1 int, 2/3 checked/unchecked pointer to a word, 4/5 to a struct,
 -- 6/7 to an array), above it the number (8 bits) and an array's count (16 bits).
-use Rattle.std.specs.Prelude.{ℕ, ◌+◌, ◌*◌, ◌/◌, ◌%◌, ◌<◌, ◌==◌}
+use Rattle.cells.specs.declared.Cell.{Cell}
+use Rattle.std.specs.Prelude.{ℕ, ◌+◌, ◌*◌, ◌/◌, ◌%◌, ◌<◌, ◌==◌, Option, Some, None}
 use Rattle.choice.specs.Choice.{choose}
 use Rattle.cells.specs.declared.Mode.{Mode}
 use Rattle.cells.specs.declared.Mode.TheVariants.{Checked, Unchecked}
 use Rattle.cells.specs.declared.Kind.{Kind}
 use Rattle.cells.specs.declared.Kind.TheVariants.{Int, Word, Struct, Array}
-use Rattle.cells.specs.declared.HeapWord.{HeapWord}
-use Rattle.cells.specs.declared.HeapWord.TheVariants.{Undefined, Holds}
 
 -- "mode (0 checked, 1 unchecked)"
 abbrev pub mode_number : Mode → ℕ
@@ -39,8 +38,8 @@ unpacked code =
     choose (code % 8 / 2 == 3) (λ _. Array (mode_of (code % 2)) (count_in code) (number_in code)) (λ _. Int)
 
 -- a word of the heap as two numbers: its value and its kind's code, both 0 if it is undefined
-abbrev pub as_word : (value code : ℕ) → HeapWord
-as_word value code = choose (code == 0) (λ _. Undefined) (λ _. Holds (record { value = value; kind = unpacked code }))
+abbrev pub as_word : (value code : ℕ) → Option Cell
+as_word value code = choose (code == 0) (λ _. None) (λ _. Some (record { value = value; kind = unpacked code }))
 
 -- a kind whose numbers fit their fields of the code
 pub data Small : Kind → Type 0 where

@@ -1,13 +1,10 @@
 -- A heap in lent numbers: word a has its value at 2(a-1) and its kind's code at 2(a-1)+1.
-use Rattle.std.specs.Prelude.{ℕ, zero, suc, ◌+◌, ◌*◌, ◌/◌, min, List, [], ◌∷◌, ◌++◌, length, drop, set, replicate, nat_lt, slice_index, slice_set}
+use Rattle.std.specs.Prelude.{ℕ, zero, suc, ◌+◌, ◌*◌, ◌/◌, min, List, [], ◌∷◌, ◌++◌, length, drop, set, replicate, nat_lt, slice_index, slice_set, Option, Some, None}
 use Rattle.choice.specs.Choice.{choose}
 use Rattle.cells.specs.Code.{packed, as_word}
 use Rattle.cells.specs.Heap.{Heap, undefined}
 use Rattle.cells.specs.Free.{lowest_in}
 use Rattle.cells.specs.declared.Cell.{Cell}
-use Rattle.cells.specs.declared.HeapWord.{HeapWord}
-use Rattle.cells.specs.declared.HeapWord.TheVariants.{Undefined, Holds}
-use Rattle.cells.specs.declared.Run.{Run}
 
 -- the whole words that lent numbers hold: an odd last number is none
 abbrev pub whole_words : List ℕ → ℕ
@@ -18,8 +15,8 @@ abbrev pub heap_words : List ℕ → ℕ
 heap_words ws = min (whole_words ws) 4096
 
 -- the word at an address
-unfoldable pub word_at : List ℕ → ℕ → HeapWord
-word_at ws zero = Undefined
+unfoldable pub word_at : List ℕ → ℕ → Option Cell
+word_at ws zero = None
 word_at ws (suc i) = as_word (slice_index ws (2 * i)) (slice_index ws (2 * i + 1))
 
 -- number j of the word at an address, its value or its kind's code: 0 where there is no such word
@@ -42,17 +39,17 @@ abbrev pub cleared : List ℕ → ℕ → List ℕ
 cleared ws words = replicate (2 * min words (whole_words ws)) 0 ++ drop (2 * min words (whole_words ws)) ws
 
 -- the lowest run of k undefined words within low to high and within the lent numbers
-abbrev pub lowest_run : List ℕ → (k low high : ℕ) → Run
+abbrev pub lowest_run : List ℕ → (k low high : ℕ) → Option ℕ
 lowest_run ws k low high = lowest_in (λ a. undefined (word_at ws a)) k low (min high (whole_words ws))
 
 -- a word's two numbers: both 0 if it is undefined
-abbrev pub value_in : HeapWord → ℕ
-value_in Undefined = 0
-value_in (Holds c) = c.value
+abbrev pub value_in : Option Cell → ℕ
+value_in None = 0
+value_in (Some c) = c.value
 
-abbrev pub code_in : HeapWord → ℕ
-code_in Undefined = 0
-code_in (Holds c) = packed c.kind
+abbrev pub code_in : Option Cell → ℕ
+code_in None = 0
+code_in (Some c) = packed c.kind
 
 -- a heap's words as numbers
 unfoldable pub numbers_of : Heap → List ℕ

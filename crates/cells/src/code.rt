@@ -2,7 +2,7 @@
 ghost use Rattle.std.specs.Prelude.{◌≡◌, ◌+◌, ◌<◌};
 ghost use Rattle.cells.specs.Code.{mode_number, mode_of, packed, unpacked, as_word};
 
-use crate::{Cell, HeapWord, Kind, Mode};
+use crate::{Cell, Kind, Mode};
 
 // The code of a kind.
 pub fn pack(kind: Kind) -> u64
@@ -39,13 +39,13 @@ pub fn unpack(code: u64) -> Kind
 }
 
 // The word of the heap that two numbers are.
-pub fn as_word(value: u64, code: u64) -> HeapWord
+pub fn as_word(value: u64, code: u64) -> Option<Cell>
     ensures { result ≡ as_word value code }
 {
     if code == 0 {
-        HeapWord::Undefined
+        None
     } else {
-        HeapWord::Holds(Cell {
+        Some(Cell {
             value,
             kind: unpack(code),
         })

@@ -4,7 +4,7 @@ ghost use Rattle.cells.specs.Lent.{heap_words, word_at, lent_number, stored, put
 ghost use Rattle.cells.specs.Heap.{undefined};
 
 use crate::code::{as_word, pack};
-use crate::{Cell, HeapWord, Run};
+use crate::Cell;
 
 // The number at an index, 0 past the end.
 pub fn word(s: &[u64], i: usize) -> u64
@@ -30,7 +30,7 @@ pub fn heap_words(heap: &[u64]) -> usize
 }
 
 // The word at an address.
-pub fn cell_at(heap: &[u64], address: usize) -> HeapWord
+pub fn cell_at(heap: &[u64], address: usize) -> Option<Cell>
     ensures { result ≡ word_at heap.now address }
 {
     as_word(value_at(heap, address), code_at(heap, address))
@@ -83,7 +83,7 @@ pub fn clear(heap: &mut [u64], words: usize)
 
 // The lowest run of k undefined words within low to high and within the heap. One pass: `run` counts the undefined words just
 // before `a`, and a defined word begins the count anew.
-pub fn lowest_run(heap: &[u64], k: usize, low: usize, high: usize) -> Run
+pub fn lowest_run(heap: &[u64], k: usize, low: usize, high: usize) -> Option<usize>
     ensures { result ≡ lowest_run heap.now k low high }
 {
     let last = lesser(high, heap.len() / 2);
@@ -91,7 +91,7 @@ pub fn lowest_run(heap: &[u64], k: usize, low: usize, high: usize) -> Run
     let mut run = 0;
     while a <= last + 1 {
         if run == k {
-            return Run::From(a - k);
+            return Some(a - k);
         }
         if is_undefined(heap, a) {
             run += 1;
@@ -100,7 +100,7 @@ pub fn lowest_run(heap: &[u64], k: usize, low: usize, high: usize) -> Run
         }
         a += 1;
     }
-    Run::Nowhere
+    None
 }
 
 fn is_undefined(heap: &[u64], address: usize) -> bool

@@ -25,20 +25,6 @@ pub struct Cell {
     pub kind: Kind,
 }
 
-// A word of the heap.
-#[derive(Clone, Copy)]
-pub enum HeapWord {
-    Undefined,
-    Holds(Cell),
-}
-
-// The lowest run of undefined words that is long enough: its first address, or nowhere.
-#[derive(Clone, Copy)]
-pub enum Run {
-    From(usize),
-    Nowhere,
-}
-
 mod code;
 mod lent;
 

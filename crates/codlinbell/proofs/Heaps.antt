@@ -1,4 +1,5 @@
 -- The heap of a content: it has W words, its kinds fit their codes, and storing the rows of the cell table over cleared words makes it.
+use Rattle.std.specs.Prelude.{None}
 use Prim.Native.Nat.{ℕ, suc, ◌+◌, ◌*◌, ◌/◌, ◌≤◌}
 use mathlib.Core.Path.{◌≡◌, refl, sym, ap, ◌∙◌}
 use mathlib.Core.List.{List, [], ◌∷◌}
@@ -12,7 +13,6 @@ use Rattle.cells.specs.Lent.{lent, stored, cleared}
 use Rattle.cells.proofs.Heaps.{length_update, small_empty, small_update}
 use Rattle.cells.proofs.View.{stored_lent, cleared_lent}
 use Rattle.cells.specs.declared.Kind.{Kind}
-use Rattle.cells.specs.declared.HeapWord.TheVariants.{Undefined}
 use Rattle.calculus.specs.Setting.{cell}
 use Rattle.image.specs.Content.{Placed, placed, heap_of}
 use Rattle.image.specs.Tabled.{cell_rows}
@@ -28,7 +28,7 @@ placed_length (p ∷ ps) H = placed_length ps (update H p.address p.held) ∙ le
 
 -- A content's heap has W words.
 pub heap_length : (words : ℕ) (ps : List Placed) → length (heap_of words ps) ≡ words
-heap_length words ps = placed_length ps (replicate words Undefined) ∙ length-replicate words Undefined
+heap_length words ps = placed_length ps (replicate words None) ∙ length-replicate words None
 
 -- Placing cells whose kinds fit keeps a heap's kinds fitting.
 placed_small : {words a : ℕ} {ps : List Placed} → CellsRise words a ps → (H : Heap) → SmallHeap H → SmallHeap (placed ps H)
@@ -37,7 +37,7 @@ placed_small none H s = s
 placed_small (more {p = p} h l k r) H s = placed_small r (update H p.address p.held) (small_update H p.address p.held s k)
 
 pub heap_small : {words : ℕ} {ps : List Placed} → CellsRise words 0 ps → SmallHeap (heap_of words ps)
-heap_small {words} r = placed_small r (replicate words Undefined) (small_empty words)
+heap_small {words} r = placed_small r (replicate words None) (small_empty words)
 
 -- A number of row j, of rows whose part from there on is known.
 row_at : (rows : List ℕ) (j i : ℕ) (xs : List ℕ) → drop (3 * j) rows ≡ xs → get_or rows (3 * j + i) 0 ≡ get_or xs i 0
@@ -72,5 +72,5 @@ pub cells_made : (ws : List ℕ) (words : ℕ) (ps : List Placed) → CellsRise 
     → cells_stored (cell_rows ps) (cleared ws words) ≡ lent (heap_of words ps) ws
 cells_made ws words ps r h =
     let n : length (cell_rows ps) / 3 ≡ length ps = omega (arith, rows_length ps) in
-    let l : length (replicate words Undefined) ≡ words = length-replicate words Undefined in
-    rw (n, cleared_lent ws words h) (rows_lent (cell_rows ps) r 0 (replicate words Undefined) ws refl (omega arith) (omega arith))
+    let l : length (replicate words None) ≡ words = length-replicate words None in
+    rw (n, cleared_lent ws words h) (rows_lent (cell_rows ps) r 0 (replicate words None) ws refl (omega arith) (omega arith))

@@ -1,9 +1,8 @@
 -- What an image holds: its format, tables, cells and the expression; and the setting and the heap that they make.
-use Rattle.std.specs.Prelude.{ℕ, false, List, [], ◌∷◌, replicate}
+use Rattle.std.specs.Prelude.{ℕ, false, List, [], ◌∷◌, replicate, None}
 use Rattle.cells.specs.Heap.{Heap, update}
 use Rattle.cells.specs.declared.Kind.{Kind}
 use Rattle.cells.specs.declared.Cell.{Cell}
-use Rattle.cells.specs.declared.HeapWord.TheVariants.{Undefined}
 use Rattle.calculus.specs.Setting.{Setting}
 use Rattle.calculus.specs.Expr.{Expr}
 use Rattle.image.specs.declared.Format.{Format}
@@ -40,4 +39,4 @@ placed (p ∷ ps) H = placed ps (update H p.address p.held)
 
 -- "On acceptance, before the first step, every word from 1 to W that the image doesn't set is undefined."
 abbrev pub heap_of : (words : ℕ) → List Placed → Heap
-heap_of words ps = placed ps (replicate words Undefined)
+heap_of words ps = placed ps (replicate words None)

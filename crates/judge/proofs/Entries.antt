@@ -1,4 +1,5 @@
 -- The cell table of an image whose addresses rise holds the heap that its cells make.
+use Rattle.std.specs.Prelude.{Some, None}
 use mathlib.Core.Path.{◌≡◌, refl, sym, ◌∙◌, ap}
 use mathlib.Core.Logic.{◌⊎◌, inl, inr, ⊎_elim}
 use mathlib.Core.List.{List, [], ◌∷◌}
@@ -10,7 +11,6 @@ use lib.ListN.{length, get_or, replicate, length-replicate}
 use Rattle.cells.specs.Code.{packed, unpacked}
 use Rattle.cells.specs.Heap.{Heap, look, update}
 use Rattle.cells.specs.declared.Cell.{Cell}
-use Rattle.cells.specs.declared.HeapWord.TheVariants.{Undefined, Holds}
 use Rattle.cells.proofs.Codes.{round_trip}
 use Rattle.cells.proofs.Heaps.{length_update, look_same, look_other, look_empty}
 use Rattle.calculus.specs.Setting.{cell}
@@ -79,29 +79,29 @@ untouched (more {p} {ps} h w s r) H b l =
     untouched r (update H p.address p.held) b (omega arith) ∙ look_other H p.address b p.held (λ e. omega arith)
 
 held : {words a : ℕ} {ps : List Placed} → CellsRise words a ps → (H : Heap) → length H ≡ words → (j : ℕ) → j < length ps
-    → look (placed ps H) (entry_at (cell_rows ps) j 0) ≡ Holds (literal_at (cell_rows ps) j)
+    → look (placed ps H) (entry_at (cell_rows ps) j 0) ≡ Some (literal_at (cell_rows ps) j)
 unfolding cell_rows placed
 held none H e j l = absurd (omega arith)
 held (more {p} {ps} b w s r) H e zero l =
     rw (first p ps 0, first p ps 1, first p ps 2)
     (untouched r (update H p.address p.held) p.address (omega arith)
     ∙ look_same H p.address p.held (omega arith) (omega arith)
-    ∙ ap (λ (κ : _). Holds (cell p.held.value κ)) (sym (round_trip s)))
+    ∙ ap (λ (κ : _). Some (cell p.held.value κ)) (sym (round_trip s)))
 held (more {p} {ps} b w s r) H e (suc j) l =
     rw (next p ps j 0, next p ps j 1, next p ps j 2)
     (held r (update H p.address p.held) (length_update H p.address p.held ∙ e) j (omega arith))
 
 -- a word that is defined was, or is an entry
-defined : {words a : ℕ} {ps : List Placed} → CellsRise words a ps → (H : Heap) (b : ℕ) (d : Cell) → look (placed ps H) b ≡ Holds d
-    → (look H b ≡ Holds d) ⊎ ((j : ℕ) × (j < length ps) × (entry_at (cell_rows ps) j 0 ≡ b))
+defined : {words a : ℕ} {ps : List Placed} → CellsRise words a ps → (H : Heap) (b : ℕ) (d : Cell) → look (placed ps H) b ≡ Some d
+    → (look H b ≡ Some d) ⊎ ((j : ℕ) × (j < length ps) × (entry_at (cell_rows ps) j 0 ≡ b))
 unfolding cell_rows placed
 defined none H b d e = inl e
 defined (more {p} {ps} h w s r) H b d e =
     ⊎_elim (λ f. here (ℕ_discrete b p.address) f) (λ f. inr (suc f.0, omega (arith, f.1), rw (next p ps f.0 0) f.2))
     (defined r (update H p.address p.held) b d e)
   where
-    here : Dec (b ≡ p.address) → look (update H p.address p.held) b ≡ Holds d
-        → (look H b ≡ Holds d) ⊎ ((j : ℕ) × (j < length (p ∷ ps)) × (entry_at (cell_rows (p ∷ ps)) j 0 ≡ b))
+    here : Dec (b ≡ p.address) → look (update H p.address p.held) b ≡ Some d
+        → (look H b ≡ Some d) ⊎ ((j : ℕ) × (j < length (p ∷ ps)) × (entry_at (cell_rows (p ∷ ps)) j 0 ≡ b))
     here (yes f) g = inr (0, omega arith, first p ps 0 ∙ sym f)
     here (no n) g = inl (sym (look_other H p.address b p.held n) ∙ g)
 
@@ -109,11 +109,11 @@ pub holds_heap : {words : ℕ} {ps : List Placed} → CellsRise words 0 ps → H
 holds_heap {words} {ps} r =
     record {
       rising = λ i j h l. rises r i j h (omega (arith, entries_rows ps));
-      held = λ j l. held r (replicate words Undefined) (length-replicate words Undefined) j (omega (arith, entries_rows ps));
+      held = λ j l. held r (replicate words None) (length-replicate words None) j (omega (arith, entries_rows ps));
       exact = λ j l. exact r j (omega (arith, entries_rows ps));
       only = λ a d e.
           ⊎_elim
           (λ f. absurd (not_held (sym (look_empty words a) ∙ f)))
           (λ f. record { index = f.0; below = omega (arith, entries_rows ps, f.1); is = f.2 })
-          (defined r (replicate words Undefined) a d e);
+          (defined r (replicate words None) a d e);
     }

@@ -1,5 +1,6 @@
 -- What the laws of the judge take from the tables: that the lent tables hold a setting's structs and word types, and the cell table a
 -- heap, with rising addresses and codes that are those of their kinds.
+use Rattle.std.specs.Prelude.{Some}
 use mathlib.Core.Path.{◌≡◌}
 use mathlib.Core.List.{List}
 use Prim.Native.Nat.{ℕ, ◌*◌, ◌<◌}
@@ -7,7 +8,6 @@ use lib.ListN.{length, get_or}
 use Rattle.cells.specs.Code.{packed, unpacked, Small}
 use Rattle.cells.specs.Heap.{Heap, look}
 use Rattle.cells.specs.declared.Cell.{Cell}
-use Rattle.cells.specs.declared.HeapWord.TheVariants.{Holds}
 use Rattle.calculus.specs.Setting.{Setting, cell, kind_of, fields_of}
 use Rattle.judge.specs.Tables.{entry_at, field_at, code_of}
 use Rattle.judge.specs.Addresses.{entries}
@@ -33,6 +33,6 @@ literal_at cells j = cell (entry_at cells j 1) (unpacked (entry_at cells j 2))
 -- cells
 pub record HoldsHeap (H : Heap) (cells : List ℕ) : Type 0 where
   pub rising : (i j : ℕ) → i < j → j < entries cells → entry_at cells i 0 < entry_at cells j 0
-  pub held : (j : ℕ) → j < entries cells → look H (entry_at cells j 0) ≡ Holds (literal_at cells j)
+  pub held : (j : ℕ) → j < entries cells → look H (entry_at cells j 0) ≡ Some (literal_at cells j)
   pub exact : (j : ℕ) → j < entries cells → packed (unpacked (entry_at cells j 2)) ≡ entry_at cells j 2
-  pub only : (a : ℕ) (d : Cell) → look H a ≡ Holds d → Entry cells a
+  pub only : (a : ℕ) (d : Cell) → look H a ≡ Some d → Entry cells a

@@ -1,5 +1,6 @@
 -- A look at a literal: if it goes on, the words that the literal needs are marked entries of the kinds claimed; if it is off, the literal
 -- is not good.
+use Rattle.std.specs.Prelude.{Some}
 use mathlib.Core.Path.{◌≡◌, sym, ◌∙◌, ap}
 use mathlib.Core.Bool.{false}
 use mathlib.Core.List.{List}
@@ -11,7 +12,6 @@ use Rattle.choice.specs.Choice.{choose_told}
 use Rattle.cells.specs.Code.{packed, unpacked}
 use Rattle.cells.specs.Heap.{Heap, look}
 use Rattle.cells.specs.declared.Cell.{Cell}
-use Rattle.cells.specs.declared.HeapWord.TheVariants.{Holds}
 use Rattle.cells.proofs.Codes.{round_trip}
 use Rattle.calculus.specs.Setting.{Setting, cell, size, word_kind}
 use Rattle.calculus.specs.Literal.{is_base}
@@ -62,9 +62,9 @@ module _ {S : Setting} {H : Heap} {structs types cells : List ℕ} (hs : Setting
 
   -- a word of the right kind has the code claimed
   right_code : (v code i j : ℕ) (w : ℕ) → i < size S (unpacked code) → j < entries cells → entry_at cells j 0 ≡ v + i
-      → look H (v + i) ≡ Holds (cell w (word_kind S (unpacked code) i)) → entry_at cells j 2 ≡ claim structs types code i
+      → look H (v + i) ≡ Some (cell w (word_kind S (unpacked code) i)) → entry_at cells j 2 ≡ claim structs types code i
   right_code v code i j w l b a t =
-      let e : Holds (literal_at cells j) ≡ Holds (cell w (word_kind S (unpacked code) i)) = sym (hh.held j b) ∙ rw a t in
+      let e : Some (literal_at cells j) ≡ Some (cell w (word_kind S (unpacked code) i)) = sym (hh.held j b) ∙ rw a t in
       let f : literal_at cells j ≡ cell w (word_kind S (unpacked code) i) = cc in
       sym (hh.exact j b) ∙ ap (λ (c : Cell). packed c.kind) f ∙ sym (claim_kind hs code i l)
 

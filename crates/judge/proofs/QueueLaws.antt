@@ -1,5 +1,6 @@
 -- The literal check, from look to look: every marked entry is closed or waits in the queue, and what waits is reached from the literal that
 -- is judged. So if the queue is drained all that is marked is well typed, and if a look is off the literal is not.
+use Rattle.std.specs.Prelude.{Some}
 use mathlib.Core.Path.{◌≡◌, refl, subst, ap}
 use mathlib.Core.Logic.{◌⊎◌, inl, inr, ⊎_elim}
 use mathlib.Core.Bool.{Bool, true, false}
@@ -16,7 +17,6 @@ use Rattle.cells.specs.Heap.{Heap, look}
 use Rattle.cells.specs.Lent.{value_in}
 use Rattle.cells.specs.declared.Kind.{Kind}
 use Rattle.cells.specs.declared.Cell.{Cell}
-use Rattle.cells.specs.declared.HeapWord.TheVariants.{Holds}
 use Rattle.calculus.specs.Setting.{Setting, cell, size, word_kind}
 use Rattle.calculus.specs.Literal.{WellLit, is_base, literal_well}
 use Rattle.calculus.proofs.Same.{holds, as_true, fails}
@@ -71,7 +71,7 @@ module _ {S : Setting} {H : Heap} {structs types cells : List ℕ} (hs : Setting
       index : ℕ
       below : index < entries cells
       marked : HasMark s.marks index
-      there : look H (v + i) ≡ Holds (literal_at cells index)
+      there : look H (v + i) ≡ Some (literal_at cells index)
       kind : unpacked (entry_at cells index 2) ≡ word_kind S κ i
 
     closed_word : (v code : ℕ) → Closed structs types cells s.marks v code → (i : ℕ) → is_base v (unpacked code) ≡ false

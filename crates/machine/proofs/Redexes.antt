@@ -1,5 +1,5 @@
 -- What nodes give on codes is what the definition's redexes give on the kinds that have them; and what the machine holds of the heap.
-use Rattle.std.proofs.Common.{◌≡◌, ℕ, zero, suc, ◌+◌, ◌-◌, ◌*◌, ◌/◌, ◌%◌, ◌^◌, ◌<◌, ◌≤◌, Bool, true, false, eqb, ltb, leb, List, [], ◌∷◌, map, length, get_or, refl, ◌∙◌, arith, ltb-false, ltb-true, le-ltb, lt-ltb, le-leb}
+use Rattle.std.proofs.Common.{◌≡◌, ℕ, zero, suc, ◌+◌, ◌-◌, ◌*◌, ◌/◌, ◌%◌, ◌^◌, ◌<◌, ◌≤◌, Bool, true, false, eqb, ltb, leb, List, [], ◌∷◌, map, length, get_or, refl, ◌∙◌, arith, ltb-false, ltb-true, le-ltb, lt-ltb, le-leb, Option, Some, None}
 use native.Mathlib.Decide.{dec_le, dec_lt}
 use lib.ListN.{get_or-eq_default}
 use borrow.Author.Tests.{lt-leb}
@@ -13,8 +13,6 @@ use Rattle.cells.specs.declared.Mode.TheVariants.{Checked, Unchecked}
 use Rattle.cells.specs.declared.Kind.{Kind}
 use Rattle.cells.specs.declared.Kind.TheVariants.{Int, Word, Struct, Array}
 use Rattle.cells.specs.declared.Cell.{Cell}
-use Rattle.cells.specs.declared.HeapWord.{HeapWord}
-use Rattle.cells.specs.declared.HeapWord.TheVariants.{Undefined, Holds}
 use Rattle.cells.proofs.Codes.{round_trip}
 use Rattle.cells.proofs.Heaps.{length_update, small_update, undefined_update}
 use Rattle.cells.proofs.View.{word_lent, stored_lent, lowest_lent}
@@ -164,13 +162,13 @@ fallen_same (Struct m n) k e = refl
 fallen_same (Array Checked c n) k e = absurd (clash refl e)
 fallen_same (Array Unchecked c n) k e = refl
 
-look_past : (H : Heap) (a : ℕ) → length H < a → look H a ≡ Undefined
+look_past : (H : Heap) (a : ℕ) → length H < a → look H a ≡ None
 unfolding look
 look_past H zero l = refl
-look_past H (suc i) l = get_or-eq_default H Undefined {n = i} (omega arith)
+look_past H (suc i) l = get_or-eq_default H None {n = i} (omega arith)
 
 -- a word that is defined is one of the heap's
-in_heap : (H : Heap) (a : ℕ) (c : Cell) → look H a ≡ Holds c → a ≤ length H
+in_heap : (H : Heap) (a : ℕ) (c : Cell) → look H a ≡ Some c → a ≤ length H
 unfolding look
 in_heap H zero c e = omega arith
 in_heap H (suc i) c e = go (dec_le (suc i) (length H))
@@ -178,7 +176,7 @@ in_heap H (suc i) c e = go (dec_le (suc i) (length H))
     go : Dec (suc i ≤ length H) → suc i ≤ length H
     go (yes l) = l
     go (no n) =
-        let q : get_or H i Undefined ≡ Undefined = get_or-eq_default H Undefined {n = i} (omega arith) in
+        let q : get_or H i None ≡ None = get_or-eq_default H None {n = i} (omega arith) in
         let z : ◌≡◌ {A = ℕ} 0 1 = cc in
         absurd (omega arith)
 
@@ -193,12 +191,12 @@ type_at (τ ∷ τs) (suc n) = type_at τs n
 data Tested (H : Heap) (v : ℕ) : Yield → ((Cell → Redex) → Redex) → Type 0 where
   t_blocked : Tested H v Blocked (λ go. blocked)
   t_halts : {h : Halt} → Tested H v (Halts h) (λ go. halts h)
-  t_word : {c : Cell} → look H v ≡ Holds c → Tested H v (Gives c.value (packed c.kind)) (λ go. go c)
+  t_word : {c : Cell} → look H v ≡ Some c → Tested H v (Gives c.value (packed c.kind)) (λ go. go c)
 
-small_cell : {w : HeapWord} {c : Cell} → w ≡ Holds c → SmallWord w → Small c.kind
+small_cell : {w : Option Cell} {c : Cell} → w ≡ Some c → SmallWord w → Small c.kind
 small_cell {c = c} e s = go (rw e at s)
   where
-    go : SmallWord (Holds c) → Small c.kind
+    go : SmallWord (Some c) → Small c.kind
     go (small_held k) = k
 
 -- the setting's tables in lent numbers, its terms, and room for the heap's words
@@ -315,14 +313,14 @@ module _ {S : Setting} {T : Terms} {ws structs types : List ℕ} (L : Loaded S T
   read_tested v κ k =
       rw (even_code κ k, empty_code κ k, held_same v) (go (both (checked_pointer κ) (eqb v 0)) (checked_empty κ) (look H v) refl)
     where
-      go : (b b' : Bool) (w : HeapWord) → look H v ≡ w
+      go : (b b' : Bool) (w : Option Cell) → look H v ≡ w
           → Tested H v
           (choose b (λ _. Halts Null) λ _. choose b' (λ _. Halts Bounds) (λ _. held_of w))
           (λ f. choose b (λ _. halts Null) λ _. choose b' (λ _. halts Bounds) (λ _. defined_then w f))
       go true b' w e = t_halts
       go false true w e = t_halts
-      go false false Undefined e = t_blocked
-      go false false (Holds d) e = t_word e
+      go false false None e = t_blocked
+      go false false (Some d) e = t_word e
 
   read_matches : {v : ℕ} {y : Yield} {then : (Cell → Redex) → Redex} → Tested H v y then
       → Matches H ws (lent H ws) y (then (λ d. gives H d.value d.kind))

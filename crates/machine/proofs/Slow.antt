@@ -1,8 +1,6 @@
 -- A transition counts at most one step.
-use Rattle.std.proofs.Common.{◌≡◌, ℕ, ◌+◌, ◌-◌, ◌/◌, ◌≤◌, Bool, true, false, eqb, leb, List, length, refl, arith}
+use Rattle.std.proofs.Common.{◌≡◌, ℕ, ◌+◌, ◌-◌, ◌/◌, ◌≤◌, Bool, true, false, eqb, leb, List, length, refl, arith, Option, Some, None}
 use Rattle.cells.specs.Lent.{lowest_run}
-use Rattle.cells.specs.declared.Run.{Run}
-use Rattle.cells.specs.declared.Run.TheVariants.{From, Nowhere}
 use Rattle.calculus.specs.declared.Halt.{Halt}
 use Rattle.calculus.specs.declared.Halt.TheVariants as halts
 use Rattle.calculus.specs.declared.Operation.{Operation}
@@ -43,10 +41,10 @@ slow_contracted limit s (Halts h) = slow_halt limit s h
 slow_contracted limit s Blocked = over
 
 module _ (structs types : List ℕ) (T : Terms) (ws : List ℕ) (s : State) where
-  slow_run : (r : Run) (code size : ℕ) → Slow s.steps (room_found r structs types T.limit ws s code size).turn
+  slow_run : (r : Option ℕ) (code size : ℕ) → Slow s.steps (room_found r structs types T.limit ws s code size).turn
   unfolding room_taken
-  slow_run (From a) code size = by (leb T.limit s.steps) (λ h. rw h over) (λ h. rw h (more refl))
-  slow_run Nowhere code size = slow_halt T.limit s halts.Room
+  slow_run (Some a) code size = by (leb T.limit s.steps) (λ h. rw h over) (λ h. rw h (more refl))
+  slow_run None code size = slow_halt T.limit s halts.Room
 
   slow_room : (code size : ℕ) → Slow s.steps (room_for structs types T ws s code size).turn
   unfolding room_for

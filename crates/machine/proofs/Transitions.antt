@@ -1,5 +1,5 @@
 -- The next transition of a machine that holds an expression: it leaves the expression as it is, or it is the expression's next step.
-use Rattle.std.proofs.Common.{◌≡◌, ℕ, suc, ◌+◌, ◌-◌, ◌*◌, ◌/◌, ◌<◌, ◌≤◌, Bool, true, false, eqb, List, ◌∷◌, length, get_or, refl, ap, ◌∙◌, add-one, arith, ne_eqb, le-leb}
+use Rattle.std.proofs.Common.{◌≡◌, ℕ, suc, ◌+◌, ◌-◌, ◌*◌, ◌/◌, ◌<◌, ◌≤◌, Bool, true, false, eqb, List, ◌∷◌, length, get_or, refl, ap, ◌∙◌, add-one, arith, ne_eqb, le-leb, Option, Some, None}
 use borrow.Author.Tests.{lt-leb}
 use Rattle.choice.specs.Choice.{choose}
 use Rattle.cells.specs.Code.{packed, mode_number, Small}
@@ -11,8 +11,6 @@ use Rattle.cells.specs.declared.Mode.TheVariants.{Checked}
 use Rattle.cells.specs.declared.Kind.{Kind}
 use Rattle.cells.specs.declared.Kind.TheVariants.{Int}
 use Rattle.cells.specs.declared.Cell.{Cell}
-use Rattle.cells.specs.declared.Run.{Run}
-use Rattle.cells.specs.declared.Run.TheVariants.{From, Nowhere}
 use Rattle.cells.proofs.Codes.{round_trip, packed_not_zero}
 use Rattle.cells.proofs.View.{length_put}
 use Rattle.cells.proofs.Free.{lowest}
@@ -122,14 +120,14 @@ module _ {S : Setting} {T : Terms} {ws structs types : List ℕ} (L : Loaded S T
         rw (size_same L κ sm, found_same L H s.hint (size S κ) hs hl k)
         (go (eqb (size S κ) 0) (lowest_in (λ a. undefined (look H a)) (size S κ) S.low S.high) refl)
       where
-        go : (b : Bool) (run : Run) → lowest_in (λ a. undefined (look H a)) (size S κ) S.low S.high ≡ run
+        go : (b : Bool) (run : Option ℕ) → lowest_in (λ a. undefined (look H a)) (size S κ) S.low S.high ≡ run
             → Does s
             (choose b (λ _. leaving (states.stuck s) (lent H ws))
             (λ _. room_found run structs types T.limit (lent H ws) s (packed κ) (size S κ)))
             (choose b (λ _. blocked) (λ _. taken_from S H κ run))
         go true run e = d_blocked
-        go false Nowhere e = d_halts
-        go false (From a) e =
+        go false None e = d_halts
+        go false (Some a) e =
             let l = lowest _ (size S κ) S.high S.low a e in
             let z = taken_zeros L sm hs hl l in
             d_gives

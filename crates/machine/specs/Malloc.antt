@@ -1,10 +1,8 @@
 -- malloc over the lent numbers: whether there is room, and the words that then become zeros.
-use Rattle.std.specs.Prelude.{ℕ, zero, suc, ◌+◌, ◌/◌, ◌%◌, ◌^◌, List, ◌==◌, nat_le, slice_index_or}
+use Rattle.std.specs.Prelude.{ℕ, zero, suc, ◌+◌, ◌/◌, ◌%◌, ◌^◌, List, ◌==◌, nat_le, slice_index_or, Option, Some, None}
 use Rattle.choice.specs.Choice.{choose}
 use Rattle.cells.specs.Code.{number_in}
 use Rattle.cells.specs.Lent.{put_word, lowest_run}
-use Rattle.cells.specs.declared.Run.{Run}
-use Rattle.cells.specs.declared.Run.TheVariants.{From, Nowhere}
 use Rattle.calculus.specs.declared.Halt.TheVariants as halts
 use Rattle.machine.specs.declared.State.{State}
 use Rattle.machine.specs.declared.Hint.{Hint}
@@ -43,9 +41,9 @@ room_taken structs types limit ws s code size a =
     choose (nat_le limit s.steps) (λ _. leaving (more s) ws)
     (λ _. leaving (Goes (stepped (with_hint (focused s a code) size a))) (zeros structs types code size a 0 ws))
 
-abbrev pub room_found : Run → (structs types : List ℕ) (limit : ℕ) → List ℕ → State → (code size : ℕ) → Leaving
-room_found (From a) structs types limit ws s code size = room_taken structs types limit ws s code size a
-room_found Nowhere structs types limit ws s code size = leaving (halt limit s halts.Room) ws
+abbrev pub room_found : Option ℕ → (structs types : List ℕ) (limit : ℕ) → List ℕ → State → (code size : ℕ) → Leaving
+room_found (Some a) structs types limit ws s code size = room_taken structs types limit ws s code size a
+room_found None structs types limit ws s code size = leaving (halt limit s halts.Room) ws
 
 -- the lowest run of words that is long enough for the target of the pointer with that code
 unfoldable pub room_for : (structs types : List ℕ) → Terms → List ℕ → State → (code size : ℕ) → Leaving

@@ -1,11 +1,10 @@
 -- What a node gives once its parts are values, by "Steps", on codes of kinds: even is checked, the rest by 8 is 2 or 3 for a pointer to a
 -- word, 4 or 5 to a struct, 6 or 7 to an array, above it the number and an array's count.
-use Rattle.std.specs.Prelude.{ℕ, ◌+◌, ◌-◌, ◌*◌, ◌/◌, ◌%◌, ◌^◌, Bool, List, ◌==◌, nat_le, nat_lt, slice_index}
+use Rattle.cells.specs.declared.Cell.{Cell}
+use Rattle.std.specs.Prelude.{ℕ, ◌+◌, ◌-◌, ◌*◌, ◌/◌, ◌%◌, ◌^◌, Bool, List, ◌==◌, nat_le, nat_lt, slice_index, Option, Some, None}
 use Rattle.choice.specs.Choice.{choose, both}
 use Rattle.cells.specs.Code.{number_in, packed, unpacked}
 use Rattle.cells.specs.Lent.{word_at, stored}
-use Rattle.cells.specs.declared.HeapWord.{HeapWord}
-use Rattle.cells.specs.declared.HeapWord.TheVariants.{Undefined, Holds}
 use Rattle.calculus.specs.Setting.{cell}
 use Rattle.calculus.specs.declared.Act.{Act}
 use Rattle.calculus.specs.declared.Act.TheVariants.{Assign, Sum}
@@ -17,9 +16,9 @@ use Rattle.machine.specs.declared.Yield.{Yield}
 use Rattle.machine.specs.declared.Yield.TheVariants.{Gives, Halts, Blocked}
 use Rattle.machine.specs.States.{Yielding, yielding}
 
-abbrev pub held_of : HeapWord → Yield
-held_of Undefined = Blocked
-held_of (Holds c) = Gives c.value (packed c.kind)
+abbrev pub held_of : Option Cell → Yield
+held_of None = Blocked
+held_of (Some c) = Gives c.value (packed c.kind)
 
 -- what the word at an address holds: what is lent behind the heap's words is not looked at
 abbrev pub behind_words : (words a : ℕ) → Bool

@@ -7,7 +7,7 @@ use crate::states::{focused, halt, more, stepped, stuck, with_hint};
 use crate::yields::{field_count, field_type, number_of};
 use crate::{Hint, State, Terms, Turn};
 use calculus::Halt;
-use cells::{Run, lowest_run, put_word};
+use cells::{lowest_run, put_word};
 
 // Room for the target of a checked pointer: the lowest run of words that is long enough.
 pub fn malloc(
@@ -27,8 +27,8 @@ pub fn malloc(
     }
     let hint = s.hint;
     match lowest_run(heap, size, start(hint, size, terms.low), terms.high) {
-        Run::From(address) => take(heap, structs, types, terms.limit, s, code, size, address),
-        Run::Nowhere => halt(s, terms.limit, Halt::Room),
+        Some(address) => take(heap, structs, types, terms.limit, s, code, size, address),
+        None => halt(s, terms.limit, Halt::Room),
     }
 }
 

@@ -10,7 +10,7 @@ ghost use Rattle.machine.specs.States.{leaving, settled};
 use crate::states::{contracted, halt, more, stepped, stuck};
 use crate::{Node, State, Terms, Turn, Yield};
 use calculus::{Act, Halt, Operation};
-use cells::{Cell, HeapWord, cell_at, pack, store, unpack, word};
+use cells::{Cell, cell_at, pack, store, unpack, word};
 
 // A node with one part, whose value is in focus.
 pub fn one(heap: &[u64], structs: &[u64], words: usize, s: State, node: Node) -> Yield
@@ -64,8 +64,8 @@ fn held(heap: &[u64], words: usize, address: usize) -> Yield
         return Yield::Blocked;
     }
     match cell_at(heap, address) {
-        HeapWord::Undefined => Yield::Blocked,
-        HeapWord::Holds(cell) => {
+        None => Yield::Blocked,
+        Some(cell) => {
             let kind = cell.kind;
             Yield::Gives {
                 value: cell.value,

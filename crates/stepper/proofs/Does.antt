@@ -1,5 +1,5 @@
 -- What a row's redex does in a state: it is settled as the definition's redex says, over the heap in lent numbers.
-use Rattle.std.proofs.Common.{◌≡◌, ℕ, ◌<◌, ◌≤◌, Bool, true, false, eqb, List, length, refl, le-leb}
+use Rattle.std.proofs.Common.{◌≡◌, ℕ, ◌<◌, ◌≤◌, Bool, true, false, eqb, List, length, refl, le-leb, Option, Some, None}
 use borrow.Author.Tests.{lt-leb}
 use Rattle.choice.specs.Choice.{choose}
 use Rattle.cells.specs.Code.{packed, Small}
@@ -8,8 +8,6 @@ use Rattle.cells.specs.Free.{lowest_in}
 use Rattle.cells.specs.Lent.{lent}
 use Rattle.cells.specs.declared.Kind.{Kind}
 use Rattle.cells.specs.declared.Cell.{Cell}
-use Rattle.cells.specs.declared.Run.{Run}
-use Rattle.cells.specs.declared.Run.TheVariants.{From, Nowhere}
 use Rattle.cells.proofs.Free.{lowest}
 use Rattle.calculus.specs.Setting.{Setting, cell, size}
 use Rattle.calculus.specs.Steps.{Redex, blocked, halts, gives, malloc_redex, taken_from, zeroed}
@@ -67,14 +65,14 @@ module _ {S : Setting} {T : StepTerms} {ws structs types : List ℕ} (L : OnTerm
         rw (size_kind L.setting sm, found_as L H s.hint (size S κ) hs hl k)
         (go (eqb (size S κ) 0) (lowest_in (λ a. undefined (look H a)) (size S κ) S.low S.high) refl)
       where
-        go : (b : Bool) (run : Run) → lowest_in (λ a. undefined (look H a)) (size S κ) S.low S.high ≡ run
+        go : (b : Bool) (run : Option ℕ) → lowest_in (λ a. undefined (look H a)) (size S κ) S.low S.high ≡ run
             → Does s
             (choose b (λ _. changed (ends_stuck s) (lent H ws))
             (λ _. room_by run structs types T.limit (lent H ws) s (packed κ) (size S κ)))
             (choose b (λ _. blocked) (λ _. taken_from S H κ run))
         go true run e = does_blocked
-        go false Nowhere e = does_halts
-        go false (From a) e =
+        go false None e = does_halts
+        go false (Some a) e =
             let l = lowest _ (size S κ) S.high S.low a e in
             let z = taken_as L sm hs hl l in
             does_gives

@@ -1,10 +1,8 @@
 -- What rows do to the count of steps: those that go on without a step keep it, and a step is one more and below the limit.
-use Rattle.std.proofs.Common.{◌≡◌, ℕ, zero, suc, ◌+◌, ◌-◌, ◌^◌, ◌<◌, ◌≤◌, Bool, true, false, eqb, ltb, leb, List, refl, subst, arith, le-leb}
+use Rattle.std.proofs.Common.{◌≡◌, ℕ, zero, suc, ◌+◌, ◌-◌, ◌^◌, ◌<◌, ◌≤◌, Bool, true, false, eqb, ltb, leb, List, refl, subst, arith, le-leb, Option, Some, None}
 use native.Mathlib.Decide.{dec_le}
 use borrow.Author.Tests.{lt-leb}
 use Rattle.cells.specs.Lent.{whole_words, lent_number, lowest_run}
-use Rattle.cells.specs.declared.Run.{Run}
-use Rattle.cells.specs.declared.Run.TheVariants.{From, Nowhere}
 use Rattle.calculus.specs.declared.Act.{Act}
 use Rattle.calculus.specs.declared.Halt.{Halt}
 use Rattle.calculus.specs.declared.Halt.TheVariants as halts
@@ -52,10 +50,10 @@ on_settled limit s (Halts h) = on_halt limit s h
 on_settled limit s Blocked = on_end
 
 module _ (structs types : List ℕ) (T : StepTerms) (ws : List ℕ) (s : StepState) where
-  on_run : (r : Run) (code size : ℕ) → Onward T.limit s.steps (room_by r structs types T.limit ws s code size).turn
+  on_run : (r : Option ℕ) (code size : ℕ) → Onward T.limit s.steps (room_by r structs types T.limit ws s code size).turn
   unfolding room_takes
-  on_run (From a) code size = within T.limit s.steps (λ e. rw e on_end) (λ e l. rw e (on_step l refl))
-  on_run Nowhere code size = on_halt T.limit s halts.Room
+  on_run (Some a) code size = within T.limit s.steps (λ e. rw e on_end) (λ e l. rw e (on_step l refl))
+  on_run None code size = on_halt T.limit s halts.Room
 
   on_room : (code size : ℕ) → Onward T.limit s.steps (room_sized structs types T ws s code size).turn
   unfolding room_sized

@@ -1,9 +1,7 @@
 -- malloc over the lent numbers: whether there is room, and the words that then become zeros.
-use Rattle.std.specs.Prelude.{ℕ, zero, suc, List, ◌==◌, nat_le}
+use Rattle.std.specs.Prelude.{ℕ, zero, suc, List, ◌==◌, nat_le, Option, Some, None}
 use Rattle.choice.specs.Choice.{choose}
 use Rattle.cells.specs.Lent.{put_word, lowest_run}
-use Rattle.cells.specs.declared.Run.{Run}
-use Rattle.cells.specs.declared.Run.TheVariants.{From, Nowhere}
 use Rattle.calculus.specs.declared.Halt.TheVariants as halts
 use Rattle.tables.specs.Kinds.{type_code_at, size_at, word_type_at}
 use Rattle.stepper.specs.declared.StepState.{StepState}
@@ -32,9 +30,9 @@ room_takes structs types limit ws s code size a =
     choose (nat_le limit s.steps) (λ _. changed (ends_more s) ws)
     (λ _. changed (Steps (counting (hinted (topped s a code) size a))) (zero_words structs types code size a 0 ws))
 
-abbrev pub room_by : Run → (structs types : List ℕ) (limit : ℕ) → List ℕ → StepState → (code size : ℕ) → Changed
-room_by (From a) structs types limit ws s code size = room_takes structs types limit ws s code size a
-room_by Nowhere structs types limit ws s code size = changed (ends_halt limit s halts.Room) ws
+abbrev pub room_by : Option ℕ → (structs types : List ℕ) (limit : ℕ) → List ℕ → StepState → (code size : ℕ) → Changed
+room_by (Some a) structs types limit ws s code size = room_takes structs types limit ws s code size a
+room_by None structs types limit ws s code size = changed (ends_halt limit s halts.Room) ws
 
 -- the lowest run of words that is long enough for the target of the pointer with that code
 unfoldable pub room_sized : (structs types : List ℕ) → StepTerms → List ℕ → StepState → (code size : ℕ) → Changed

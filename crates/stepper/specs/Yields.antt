@@ -1,10 +1,9 @@
 -- What a node gives once its parts are values, by "Steps", on codes of kinds.
-use Rattle.std.specs.Prelude.{ℕ, ◌+◌, ◌%◌, ◌^◌, List, ◌==◌, nat_le, nat_lt}
+use Rattle.cells.specs.declared.Cell.{Cell}
+use Rattle.std.specs.Prelude.{ℕ, ◌+◌, ◌%◌, ◌^◌, List, ◌==◌, nat_le, nat_lt, Option, Some, None}
 use Rattle.choice.specs.Choice.{choose, both}
 use Rattle.cells.specs.Code.{number_in, count_in, packed, unpacked}
 use Rattle.cells.specs.Lent.{word_at, stored}
-use Rattle.cells.specs.declared.HeapWord.{HeapWord}
-use Rattle.cells.specs.declared.HeapWord.TheVariants.{Undefined, Holds}
 use Rattle.calculus.specs.Setting.{cell}
 use Rattle.calculus.specs.declared.Act.{Act}
 use Rattle.calculus.specs.declared.Act.TheVariants.{Assign, Sum}
@@ -17,9 +16,9 @@ use Rattle.stepper.specs.declared.StepYield.{StepYield}
 use Rattle.stepper.specs.declared.StepYield.TheVariants.{Gives, Halts, Blocked}
 use Rattle.stepper.specs.States.{Given, given_on}
 
-abbrev pub holds_gives : HeapWord → StepYield
-holds_gives Undefined = Blocked
-holds_gives (Holds c) = Gives c.value (packed c.kind)
+abbrev pub holds_gives : Option Cell → StepYield
+holds_gives None = Blocked
+holds_gives (Some c) = Gives c.value (packed c.kind)
 
 -- what the word at an address holds: what is lent behind the heap's words is not looked at
 unfoldable pub word_gives : List ℕ → (words a : ℕ) → StepYield

@@ -6,7 +6,7 @@ ghost use Rattle.stepper.specs.States.{changed};
 use crate::states::{counted, halt, hinted, more, stuck, topped};
 use crate::{StepHint, StepState, StepTerms, StepTurn};
 use calculus::Halt;
-use cells::{Run, lowest_run, put_word};
+use cells::{lowest_run, put_word};
 use tables::{size_of, type_code, word_type};
 
 // Room for the target of a checked pointer: the lowest run of words that is long enough. The pointer's place on the stack is counted.
@@ -26,8 +26,8 @@ pub fn malloc(
     }
     let hint = s.hint;
     match lowest_run(heap, size, start(hint, size, terms.low), terms.high) {
-        Run::From(address) => take(heap, structs, types, terms.limit, s, code, size, address),
-        Run::Nowhere => halt(s, terms.limit, Halt::Room),
+        Some(address) => take(heap, structs, types, terms.limit, s, code, size, address),
+        None => halt(s, terms.limit, Halt::Room),
     }
 }
 

@@ -7,7 +7,7 @@ ghost use Rattle.stepper.specs.States.{changed, settled_on};
 use crate::states::{counted, halt, more, settle, stuck, topped};
 use crate::{StepState, StepTerms, StepTurn, StepYield};
 use calculus::{Act, Halt};
-use cells::{Cell, HeapWord, cell_at, pack, store, unpack};
+use cells::{Cell, cell_at, pack, store, unpack};
 use tables::{
     Task, count_of, fallen_code, field_count, field_type, is_checked, is_checked_array, number_of,
     tag_of, type_code, word_code,
@@ -79,8 +79,8 @@ fn held(heap: &[u64], words: usize, address: usize) -> StepYield
         return StepYield::Blocked;
     }
     match cell_at(heap, address) {
-        HeapWord::Undefined => StepYield::Blocked,
-        HeapWord::Holds(cell) => {
+        None => StepYield::Blocked,
+        Some(cell) => {
             let kind = cell.kind;
             StepYield::Gives {
                 value: cell.value,

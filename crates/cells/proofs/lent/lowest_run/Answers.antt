@@ -1,7 +1,6 @@
 -- The goals of `cells::lent::lowest_run` that the check leaves.
-use Rattle.std.proofs.Common.{◌≡◌, ℕ, suc, ◌+◌, ◌-◌, ◌<◌, ◌≤◌, Bool, true, false, sym, refl, ◌∙◌, arith, rules}
+use Rattle.std.proofs.Common.{◌≡◌, ℕ, suc, ◌+◌, ◌-◌, ◌<◌, ◌≤◌, Bool, true, false, sym, refl, ◌∙◌, arith, rules, Some, None}
 use Rattle.choice.specs.Choice.{all_from}
-use Rattle.cells.specs.declared.Run.TheVariants.{From, Nowhere}
 use Rattle.cells.specs.Free.{lowest_in}
 use Rattle.cells.proofs.Free.{run_more, skip_to, begins, no_room}
 use Rattle.cells.proofs.lent.lowest_run.Invariants.{Counting}
@@ -37,10 +36,10 @@ module _ (free : ℕ → Bool) (k low last : ℕ) where
           same = rw s (m.same ∙ skip_to free k (a - run) a last (omega arith) (omega arith) h);
         }
 
-    finds : run ≡ k → a ≤ last + 1 → From (a - k) ≡ lowest_in free k low last
+    finds : run ≡ k → a ≤ last + 1 → Some (a - k) ≡ lowest_in free k low last
     finds e l = sym (rw e at m.same ∙ begins free k (a - k) last (omega arith) (rw e at m.behind))
 
-    finds_none : last + 1 < a → Nowhere ≡ lowest_in free k low last
+    finds_none : last + 1 < a → None ≡ lowest_in free k low last
     finds_none l = sym (m.same ∙ no_room free k (a - run) last (omega arith))
 
 pub loop-a-init : goal.loop-a-init

@@ -7,10 +7,10 @@ pub returns-then-size-eq0 : goal.returns-then-size-eq0
 unfolding room_for
 returns-then-size-eq0 c = rw (← c.size_of-size.ensures, eq-eqb _ _ c.if-size-eq0.true, c.stuck.ensures)
 
-pub returns-in-From : goal.returns-in-From
+pub returns-in-Some : goal.returns-in-Some
 unfolding room_for
-returns-in-From c = rw (← c.size_of-size.ensures, ne_eqb _ _ c.if-size-eq0.false, ← c.start.ensures, ← c.lowest_run.ensures, c.in-From.is, ← c.take.ensures)
+returns-in-Some c = rw (← c.size_of-size.ensures, ne_eqb _ _ c.if-size-eq0.false, ← c.start.ensures, ← c.lowest_run.ensures, c.in-Some.is, ← c.take.ensures)
 
-pub returns-in-Nowhere : goal.returns-in-Nowhere
+pub returns-in-None : goal.returns-in-None
 unfolding room_for
-returns-in-Nowhere c = rw (← c.size_of-size.ensures, ne_eqb _ _ c.if-size-eq0.false, ← c.start.ensures, ← c.lowest_run.ensures, c.in-Nowhere.is, c.halt.ensures)
+returns-in-None c = rw (← c.size_of-size.ensures, ne_eqb _ _ c.if-size-eq0.false, ← c.start.ensures, ← c.lowest_run.ensures, c.in-None.is, c.halt.ensures)

@@ -7,26 +7,26 @@ pub returns-then-size-eq0 : goal.returns-then-size-eq0
 unfolding room_sized
 returns-then-size-eq0 c = rw (← c.size_of-size.ensures, eq-eqb _ _ c.if-size-eq0.true, c.stuck.ensures)
 
-pub returns-in-From : goal.returns-in-From
+pub returns-in-Some : goal.returns-in-Some
 unfolding room_sized
-returns-in-From c =
+returns-in-Some c =
     rw (
       ← c.size_of-size.ensures,
       ne_eqb _ _ c.if-size-eq0.false,
       ← c.start.ensures,
       ← c.lowest_run.ensures,
-      c.in-From.is,
+      c.in-Some.is,
       ← c.take.ensures,
     )
 
-pub returns-in-Nowhere : goal.returns-in-Nowhere
+pub returns-in-None : goal.returns-in-None
 unfolding room_sized
-returns-in-Nowhere c =
+returns-in-None c =
     rw (
       ← c.size_of-size.ensures,
       ne_eqb _ _ c.if-size-eq0.false,
       ← c.start.ensures,
       ← c.lowest_run.ensures,
-      c.in-Nowhere.is,
+      c.in-None.is,
       c.halt.ensures,
     )

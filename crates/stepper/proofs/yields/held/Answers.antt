@@ -7,10 +7,10 @@ pub returns-then-words-address : goal.returns-then-words-address
 unfolding word_gives
 returns-then-words-address c = rw (lt-ltb _ _ c.if-words-address.true)
 
-pub returns-in-Undefined : goal.returns-in-Undefined
+pub returns-in-None : goal.returns-in-None
 unfolding word_gives
-returns-in-Undefined c = rw (le-ltb _ _ c.if-words-address.false, ← c.cell_at.ensures, c.in-Undefined.is)
+returns-in-None c = rw (le-ltb _ _ c.if-words-address.false, ← c.cell_at.ensures, c.in-None.is)
 
-pub returns-in-Holds : goal.returns-in-Holds
+pub returns-in-Some : goal.returns-in-Some
 unfolding word_gives
-returns-in-Holds c = rw (le-ltb _ _ c.if-words-address.false, ← c.cell_at.ensures, c.in-Holds.is, ← c.pack.ensures)
+returns-in-Some c = rw (le-ltb _ _ c.if-words-address.false, ← c.cell_at.ensures, c.in-Some.is, ← c.pack.ensures)
