@@ -5,7 +5,6 @@ ghost use Rattle.answers.specs.Out.{numbered, numbered_six};
 use crate::Answer;
 use crate::ends::{end_kind, end_number, end_value, fault_number};
 use crate::widths::wide;
-use cells::pack;
 
 // Writes the answer's six numbers to the front of `out` and answers true; where `out` has fewer than six, it answers false and
 // nothing changes.
@@ -19,7 +18,7 @@ pub fn write_numbers(out: &mut [u64], answer: Answer) -> bool
         }
         Answer::Ran(outcome) => {
             let end = outcome.end;
-            let code = pack(end_kind(end));
+            let code = u64::from(end_kind(end));
             write_six(
                 out,
                 1,

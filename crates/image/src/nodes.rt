@@ -9,7 +9,7 @@ ghost use Rattle.image.specs.declared.NodeRow.TheVariants.{Row};
 use crate::number::{read_below, read_limited};
 use crate::target::read_target;
 use crate::{Expression, Limited, NodeHead, NodeRow, Parts};
-use calculus::{Fault, Operation, Refusal, operation_of};
+use calculus::{Fault, Operation, Refusal};
 use cells::{put, word};
 
 // The expression that starts at `at`. It is read in the part of the image that starts there, and its places are carried back.
@@ -117,7 +117,7 @@ fn read_head(
                     place: at,
                 });
             }
-            let operation = operation_of(value);
+            let operation = Operation::from(value);
             match read_row(image, types, structs, lets, at, operation, next) {
                 NodeRow::Row {
                     argument,

@@ -6,7 +6,7 @@ ghost use Rattle.judge.specs.Script.{ScriptJudged};
 use crate::literals::first_bad;
 use crate::nodes::judge_node;
 use calculus::Refusal;
-use cells::{Kind, Mode, unpack};
+use cells::{Kind, Mode};
 
 mod addresses;
 mod literals;
@@ -66,7 +66,7 @@ pub fn judge_script(
         Mode::Checked,
         0,
     ) {
-        NodeTold::Good(code) => Judged::Good(unpack(code)),
+        NodeTold::Good(code) => Judged::Good(Kind::from(code)),
         NodeTold::Bad(refusal) => Judged::Bad(refusal),
     }
 }

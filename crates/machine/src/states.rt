@@ -4,7 +4,7 @@ ghost use Rattle.machine.specs.States as states;
 
 use crate::{Hint, State, Turn, Yield};
 use calculus::{End, Halt, Outcome};
-use cells::{Cell, unpack};
+use cells::{Cell, Kind};
 
 // Another focus.
 pub fn focused(s: State, at: u64, code: u64) -> State
@@ -134,7 +134,7 @@ pub fn done(s: State) -> Turn
 {
     let cell = Cell {
         value: s.at,
-        kind: unpack(s.code),
+        kind: Kind::from(s.code),
     };
     Turn::Ends(Outcome {
         end: End::Value(cell),

@@ -4,7 +4,7 @@ ghost use Rattle.std.specs.Prelude.{◌≡◌, ◌<◌};
 ghost use Rattle.machine.specs.Tables.{in_row, node_at, framed, kept};
 
 use crate::Node;
-use calculus::operation_of;
+use calculus::Operation;
 
 // Number j of row i, 0 where there is no such row.
 pub fn row(table: &[u64], i: usize, j: usize) -> u64
@@ -22,7 +22,7 @@ pub fn row(table: &[u64], i: usize, j: usize) -> u64
 pub fn node_at(nodes: &[u64], i: usize) -> Node
     ensures { result ≡ node_at nodes.now i }
 {
-    let operation = operation_of(row(nodes, i, 0));
+    let operation = Operation::from(row(nodes, i, 0));
     Node {
         operation,
         argument: row(nodes, i, 1),

@@ -10,7 +10,7 @@ ghost use Rattle.machine.specs.States.{leaving, settled};
 use crate::states::{contracted, halt, more, stepped, stuck};
 use crate::{Node, State, Terms, Turn, Yield};
 use calculus::{Act, Halt, Operation};
-use cells::{Cell, cell_at, pack, store, unpack, word};
+use cells::{Cell, Kind, cell_at, store, word};
 
 // A node with one part, whose value is in focus.
 pub fn one(heap: &[u64], structs: &[u64], words: usize, s: State, node: Node) -> Yield
@@ -69,7 +69,7 @@ fn held(heap: &[u64], words: usize, address: usize) -> Yield
             let kind = cell.kind;
             Yield::Gives {
                 value: cell.value,
-                code: pack(kind),
+                code: u64::from(kind),
             }
         }
     }
@@ -100,7 +100,7 @@ fn write(heap: &mut [u64], limit: u64, s: State, address: usize) -> Turn
         address,
         Cell {
             value: s.at,
-            kind: unpack(s.code),
+            kind: Kind::from(s.code),
         },
     );
     Turn::Goes(stepped(s))

@@ -14,7 +14,7 @@ use crate::leaves::{
     close_row, read_literal, read_malloc, read_operand, read_variable, refused, write_row,
 };
 use crate::short::{is_short, short_leaf};
-use calculus::{Act, Fault, Operation, operation_of};
+use calculus::{Act, Fault, Operation};
 use image::Limited;
 use tables::Task;
 
@@ -40,7 +40,7 @@ pub fn read_node(
             if 2048 <= nodes_of(cursor) {
                 return refusal_number(Fault::Limit, at);
             }
-            let o = operation_of(value);
+            let o = Operation::from(value);
             match o {
                 Operation::Literal => read_literal(rows, image, known, around, cursor, next),
                 Operation::Variable => read_variable(rows, image, around, cursor, next),

@@ -4,7 +4,7 @@ ghost use Rattle.stepper.specs.States as states;
 
 use crate::{StepHint, StepState, StepTurn, StepYield};
 use calculus::{End, Halt, Outcome};
-use cells::{Cell, unpack};
+use cells::{Cell, Kind};
 
 // Another value on top, and the next row.
 pub fn topped(s: StepState, value: u64, code: u64) -> StepState
@@ -141,7 +141,7 @@ pub fn done(s: StepState) -> StepTurn
 {
     let cell = Cell {
         value: s.value,
-        kind: unpack(s.code),
+        kind: Kind::from(s.code),
     };
     StepTurn::Ends(Outcome {
         end: End::Value(cell),

@@ -7,7 +7,7 @@ ghost use Rattle.stepper.specs.States.{changed, settled_on};
 use crate::states::{counted, halt, more, settle, stuck, topped};
 use crate::{StepState, StepTerms, StepTurn, StepYield};
 use calculus::{Act, Halt};
-use cells::{Cell, cell_at, pack, store, unpack};
+use cells::{Cell, Kind, cell_at, store};
 use tables::{
     Task, count_of, fallen_code, field_count, field_type, is_checked, is_checked_array, number_of,
     tag_of, type_code, word_code,
@@ -84,7 +84,7 @@ fn held(heap: &[u64], words: usize, address: usize) -> StepYield
             let kind = cell.kind;
             StepYield::Gives {
                 value: cell.value,
-                code: pack(kind),
+                code: u64::from(kind),
             }
         }
     }
@@ -113,7 +113,7 @@ fn write(heap: &mut [u64], limit: u64, s: StepState, address: usize) -> StepTurn
         address,
         Cell {
             value: s.value,
-            kind: unpack(s.code),
+            kind: Kind::from(s.code),
         },
     );
     StepTurn::Steps(counted(topped(s, s.value, s.code)))

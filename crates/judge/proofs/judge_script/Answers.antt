@@ -21,7 +21,7 @@ together structs types cells nodes marks queue bound marks' queue' bound' first 
     record { model = m; definition = λ words c h r. ap (λ (a : Scripted). as_verdict a.verdict) m ∙ right h r }
 
 pub returns-in-Good : goal.returns-in-Good
-returns-in-Good c = rw c.unpack.ensures (together _ _ _ _ c.args.marks.now c.args.queue.now _ _ _ _ _ _ c.first_bad-first.ensures (rw c.in-Good.is at c.judge_node.ensures))
+returns-in-Good c = rw c.from.ensures (together _ _ _ _ c.args.marks.now c.args.queue.now _ _ _ _ _ _ c.first_bad-first.ensures (rw c.in-Good.is at c.judge_node.ensures))
 
 pub returns-in-Bad : goal.returns-in-Bad
 returns-in-Bad c = together _ _ _ _ c.args.marks.now c.args.queue.now _ _ _ _ _ _ c.first_bad-first.ensures (rw c.in-Bad.is at c.judge_node.ensures)

@@ -9,5 +9,5 @@ returns-in-Refused c = rw (c.in-Refused.is, ← c.fault_number.ensures, ← c.wi
 pub returns-in-Ran : goal.returns-in-Ran
 unfolding out_numbers
 returns-in-Ran c =
-    rw (c.in-Ran.is, ← c.end_number.ensures, ← c.end_value.ensures, ← c.end_kind.ensures, ← c.pack-code.ensures)
+    rw (c.in-Ran.is, ← c.end_number.ensures, ← c.end_value.ensures, ← c.end_kind.ensures, ← c.from-code.ensures)
     c.write_six-in-Ran.ensures

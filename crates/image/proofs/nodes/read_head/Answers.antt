@@ -17,7 +17,7 @@ returns-in-Row c =
     rw (
       was_got (number _ _) c.read_limited.ensures c.in-Value.is,
       lt-leb _ _ c.if-node-ge2048.false,
-      ← c.operation_of-operation.ensures,
+      ← c.from-operation.ensures,
       was_line (line_of _ _ _ _ _ _ _) c.read_row.ensures c.in-Row.is,
       c.write_row.ensures,
     )
@@ -28,7 +28,7 @@ returns-in-Refused-read_row c =
     rw (
       was_got (number _ _) c.read_limited.ensures c.in-Value.is,
       lt-leb _ _ c.if-node-ge2048.false,
-      ← c.operation_of-operation.ensures,
+      ← c.from-operation.ensures,
       no_line (line_of _ _ _ _ _ _ _) c.read_row.ensures c.in-Refused-read_row.is,
     )
 

@@ -4,4 +4,4 @@ use Rattle.machine.proofs.tables.node_at.Goals as goal
 
 pub returns : goal.returns
 unfolding node_at
-returns c = rw (c.operation_of-operation.ensures, c.row.ensures, c.row-2.ensures, c.row-3.ensures, c.row-4.ensures)
+returns c = rw (c.from-operation.ensures, c.row.ensures, c.row-2.ensures, c.row-3.ensures, c.row-4.ensures)

@@ -13,4 +13,4 @@ returns-in-None c = rw (le-ltb _ _ c.if-words-address.false, ← c.cell_at.ensur
 
 pub returns-in-Some : goal.returns-in-Some
 unfolding held_yield
-returns-in-Some c = rw (le-ltb _ _ c.if-words-address.false, ← c.cell_at.ensures, c.in-Some.is, ← c.pack.ensures)
+returns-in-Some c = rw (le-ltb _ _ c.if-words-address.false, ← c.cell_at.ensures, c.in-Some.is, ← c.from.ensures)

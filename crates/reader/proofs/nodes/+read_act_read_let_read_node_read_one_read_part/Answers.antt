@@ -11,7 +11,7 @@ use Rattle.reader.proofs.ShortLeaves.{short_read}
 use Rattle.reader.proofs.Steps.{deeper_depth, under_depth, no_code, too_deep_lem, too_many, by_operation}
 use Rattle.reader.proofs.Behind.{was_operand, operand_deeper, part_read, one_read, left_refused, act_read, bound_refused, let_read}
 use Rattle.reader.proofs.nodes.+read_act_read_let_read_node_read_one_read_part.Goals as goal
-use Rattle.reader.proofs.nodes.+read_act_read_let_read_node_read_one_read_part.Goals.{read_node-After-operation_of-o}
+use Rattle.reader.proofs.nodes.+read_act_read_let_read_node_read_one_read_part.Goals.{read_node-After-from-o}
 
 pub read_act-read_part-left-requires : goal.read_act-read_part-left-requires
 read_act-read_part-left-requires t c = omega (arith, c.requires, ap depth_in c.deeper-within.ensures ∙ deeper_depth c.args.around)
@@ -79,13 +79,13 @@ read_node-returns-then-nodes_of-ge2048 t c =
     )
 
 -- the node, opened by the operation that its code is
-opened_here : (t : ℕ) (c : read_node-After-operation_of-o t)
+opened_here : (t : ℕ) (c : read_node-After-from-o t)
     → let a = c.args in
     node_rows a.image.now a.known a.structs (depth_in a.around) a.around a.cursor a.rows.now ≡ operation_rows a.image.now
     a.known a.structs (node_rows a.image.now a.known a.structs (depth_in a.around - 1)) a.around a.cursor
-    c.operation_of-o.result c.in-Value.next a.rows.now
+    c.from-o.result c.in-Value.next a.rows.now
 opened_here t c =
-    rw c.operation_of-o.ensures
+    rw c.from-o.ensures
     (by_operation _ _ _ _ _ _
     (rw c.offset_of-at.ensures at (was_got (number _ _) c.number_at.ensures c.in-Value.is))
     (λ e. c.if-depth_of-eq0.false (c.depth_of.ensures ∙ e))
@@ -93,29 +93,29 @@ opened_here t c =
 
 pub read_node-returns-in-Literal : goal.read_node-returns-in-Literal
 read_node-returns-in-Literal t c =
-    rw (opened_here t (goal.at.read_node-returns-in-Literal t c).After-operation_of-o, c.in-Literal.is) c.read_literal.ensures
+    rw (opened_here t (goal.at.read_node-returns-in-Literal t c).After-from-o, c.in-Literal.is) c.read_literal.ensures
 
 pub read_node-returns-in-Variable : goal.read_node-returns-in-Variable
 read_node-returns-in-Variable t c =
-    rw (opened_here t (goal.at.read_node-returns-in-Variable t c).After-operation_of-o, c.in-Variable.is) c.read_variable.ensures
+    rw (opened_here t (goal.at.read_node-returns-in-Variable t c).After-from-o, c.in-Variable.is) c.read_variable.ensures
 
 pub read_node-returns-in-Acts : goal.read_node-returns-in-Acts
 read_node-returns-in-Acts t c =
-    rw (opened_here t (goal.at.read_node-returns-in-Acts t c).After-operation_of-o, c.in-Acts.is) c.read_act.ensures
+    rw (opened_here t (goal.at.read_node-returns-in-Acts t c).After-from-o, c.in-Acts.is) c.read_act.ensures
 
 pub read_node-returns-in-Let : goal.read_node-returns-in-Let
 read_node-returns-in-Let t c =
-    rw (opened_here t (goal.at.read_node-returns-in-Let t c).After-operation_of-o, c.in-Let.is) c.read_let.ensures
+    rw (opened_here t (goal.at.read_node-returns-in-Let t c).After-from-o, c.in-Let.is) c.read_let.ensures
 
 pub read_node-returns-in-Malloc : goal.read_node-returns-in-Malloc
 read_node-returns-in-Malloc t c =
-    rw (opened_here t (goal.at.read_node-returns-in-Malloc t c).After-operation_of-o, c.in-Malloc.is) c.read_malloc.ensures
+    rw (opened_here t (goal.at.read_node-returns-in-Malloc t c).After-from-o, c.in-Malloc.is) c.read_malloc.ensures
 
 pub read_node-returns-in_default : goal.read_node-returns-in_default
 read_node-returns-in_default t c =
     let d = c.in_default in
     rw (
-      opened_here t (goal.at.read_node-returns-in_default t c).After-operation_of-o,
+      opened_here t (goal.at.read_node-returns-in_default t c).After-from-o,
       ← one_of _ _ _ _ _ _ _ _ _ d.not-Literal d.not-Variable d.not-Acts d.not-Let d.not-Malloc,
     ) c.read_one.ensures
 

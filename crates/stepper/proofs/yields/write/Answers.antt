@@ -10,4 +10,4 @@ returns-then-limit-s c = rw (le-leb _ _ c.if-limit-s.true, c.more.ensures)
 
 pub returns : goal.returns
 unfolding settled_on
-returns c = rw (lt-leb _ _ c.if-limit-s.false, ← c.unpack.ensures, c.store.ensures, c.counted.ensures, c.topped.ensures)
+returns c = rw (lt-leb _ _ c.if-limit-s.false, ← c.from.ensures, c.store.ensures, c.counted.ensures, c.topped.ensures)
