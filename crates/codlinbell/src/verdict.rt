@@ -27,14 +27,8 @@ pub fn judge_image(image: &[u8], words: usize) -> Judged
         &mut queue,
         &mut bound,
         image,
-        most_words(words),
+        words.min(4096),
     )
-}
-
-fn most_words(words: usize) -> usize
-    ensures { result ≡ min words 4096 }
-{
-    if words < 4096 { words } else { 4096 }
 }
 
 // The verdict, with tables that are long enough for any content of the image. Frames are not needed: `bound` stands for them in `LongTables`.
