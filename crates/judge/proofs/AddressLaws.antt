@@ -1,4 +1,6 @@
 -- Of the search in a cell table with rising addresses: what is found is there, word by word, and what is there is found.
+use Rattle.std.specs.Prelude.{Option, Some, None}
+use Rattle.std.proofs.lemmas.Option.{none-some}
 use mathlib.Core.Path.{◌≡◌, refl, sym, ◌∙◌}
 use mathlib.Core.Logic.{⊎_elim}
 use mathlib.Core.Bool.{Bool, true, false}
@@ -129,12 +131,12 @@ module _ (cells : List ℕ) (rising : (i j : ℕ) → i < j → j < entries cell
           }
 
   -- what is found is there
-  pub found_there : (v more : ℕ) → (covered cells v more ≡ entries cells → ⊥) → Consecutive v more (covered cells v more)
+  pub found_there : (v more j : ℕ) → covered cells v more ≡ Some j → Consecutive v more j
   unfolding covered
-  found_there v more =
-      choose_told (λ j. (j ≡ entries cells → ⊥) → Consecutive v more j) (present cells (entries cells) (sought v) v more) (λ _. sought v) (λ _. entries cells)
-      (λ t n. present_each v more (sought v) t)
-      (λ t n. absurd (n refl))
+  found_there v more j =
+      choose_told (λ (o : Option ℕ). o ≡ Some j → Consecutive v more j) (present cells (entries cells) (sought v) v more) (λ _. Some (sought v)) (λ _. None)
+      (λ t e. let s : sought v ≡ j = cc in rw s at (present_each v more (sought v) t))
+      (λ t e. absurd (none-some j e))
 
   -- words that are all there are entries one behind the other
   consecutive : (v more : ℕ) → ((i : ℕ) → i ≤ more → Entry cells (v + i)) → (e : Entry cells v) → (i : ℕ) → i ≤ more
@@ -152,13 +154,12 @@ module _ (cells : List ℕ) (rising : (i j : ℕ) → i < j → j < entries cell
           (c, omega (arith, rising j k (omega arith) c, s, mono k f.index (omega arith) f.below, f.is))
 
   -- what is there is found
-  pub there_found : (v more : ℕ) → ((i : ℕ) → i ≤ more → Entry cells (v + i)) → covered cells v more ≡ entries cells → ⊥
+  pub there_found : (v more : ℕ) → ((i : ℕ) → i ≤ more → Entry cells (v + i)) → covered cells v more ≡ None → ⊥
   unfolding covered present
   there_found v more all =
       let z : v + 0 ≡ v = omega arith in
       let e : Entry cells v = rw z at (all 0 (omega arith)) in
       let (b, s) = consecutive v more all e more (omega arith) in
-      let n : (entries cells ≡ e.index) → ⊥ = λ h. omega (arith, e.below) in
       rw (
         sought_at v e,
         lt-leb (entries cells) e.index e.below,
@@ -166,4 +167,4 @@ module _ (cells : List ℕ) (rising : (i j : ℕ) → i < j → j < entries cell
         eq-eqb (entry_at cells e.index 0) v e.is,
         eq-eqb (entry_at cells (e.index + more) 0 - v) more (omega arith),
       )
-      (λ h. omega (arith, e.below))
+      (λ h. none-some e.index (sym h))

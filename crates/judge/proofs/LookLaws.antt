@@ -1,7 +1,7 @@
 -- A look at a literal: if it goes on, the words that the literal needs are marked entries of the kinds claimed; if it is off, the literal
 -- is not good.
-use Rattle.std.specs.Prelude.{Some}
-use mathlib.Core.Path.{◌≡◌, sym, ◌∙◌, ap}
+use Rattle.std.specs.Prelude.{Option, Some, None}
+use mathlib.Core.Path.{◌≡◌, refl, sym, ◌∙◌, ap}
 use mathlib.Core.Bool.{false}
 use mathlib.Core.List.{List}
 use Prim.Native.Nat.{ℕ, ◌+◌, ◌-◌, ◌≤◌, ◌<◌}
@@ -21,7 +21,7 @@ use Rattle.judge.specs.Tables.{entry_at, tag_in}
 use Rattle.judge.specs.Addresses.{entries, covered}
 use Rattle.judge.specs.Marks.{Seen}
 use Rattle.judge.specs.Literals as model
-use Rattle.judge.specs.Literals.{Looking, on, off, span, claim, look_fields, look_alike, look_words}
+use Rattle.judge.specs.Literals.{Looking, on, off, span, claim, look_fields, look_alike, look_words, look_found}
 use Rattle.judge.proofs.HeldTables.{SettingCoded, HoldsHeap, literal_at}
 use Rattle.judge.proofs.AddressLaws.{found_there, there_found}
 use Rattle.judge.proofs.Shapes.{claim_kind, word_small, span_base, span_size}
@@ -74,31 +74,31 @@ module _ {S : Setting} {H : Heap} {structs types cells : List ℕ} (hs : Setting
   right_kind code i j l e = ap unpacked (e ∙ claim_kind hs code i l) ∙ round_trip (word_small hs (unpacked code) i)
 
   module _ (v code : ℕ) (n : span structs v code ≡ 0 → ⊥) where
-    abbrev first : ℕ
-    first = covered cells v (span structs v code - 1)
+    abbrev found : Option ℕ
+    found = covered cells v (span structs v code - 1)
 
     -- a good literal's words are found, and have the codes claimed
-    good_found : Good S H v (unpacked code) → first ≡ entries cells → ⊥
+    good_found : Good S H v (unpacked code) → found ≡ None → ⊥
     good_found (good_base b) e = refuted (needs_words v code n) b
     good_found (good_words w there) e =
         let k : span structs v code ≡ size S (unpacked code) = span_size hs v code (needs_words v code n) in
         there_found cells hh.rising v (span structs v code - 1)
         (λ i l. hh.only (v + i) (cell (w i) (word_kind S (unpacked code) i)) (there i (omega arith))) e
 
-    good_codes : (first ≡ entries cells → ⊥) → Good S H v (unpacked code) → (i : ℕ) → i < span structs v code
+    good_codes : (first : ℕ) → found ≡ Some first → Good S H v (unpacked code) → (i : ℕ) → i < span structs v code
         → entry_at cells (first + i) 2 ≡ claim structs types code i
-    good_codes m (good_base b) i l = absurd (refuted (needs_words v code n) b)
-    good_codes m (good_words w there) i l =
+    good_codes first m (good_base b) i l = absurd (refuted (needs_words v code n) b)
+    good_codes first m (good_words w there) i l =
         let k : span structs v code ≡ size S (unpacked code) = span_size hs v code (needs_words v code n) in
-        let f = found_there cells hh.rising v (span structs v code - 1) m in
+        let f = found_there cells hh.rising v (span structs v code - 1) first m in
         right_code v code i (first + i) (w i) (omega arith) (omega (arith, f.below)) (f.each i (omega arith)) (there i (omega arith))
 
-    module _ (m : first ≡ entries cells → ⊥) where
+    module _ (first : ℕ) (m : found ≡ Some first) where
       -- words that are found and have the codes claimed are those needed
       found_needed : (i : ℕ) → i < span structs v code → entry_at cells (first + i) 2 ≡ claim structs types code i
           → Needed structs types cells v code i (first + i)
       found_needed i l e =
-          let f = found_there cells hh.rising v (span structs v code - 1) m in
+          let f = found_there cells hh.rising v (span structs v code - 1) first m in
           record { few = l; below = omega (arith, f.below); address = f.each i (omega arith); kind = e }
 
       words_looked : {P : ℕ → Type 0} {s : Seen} (l : Looking) → Words cells P (claim structs types code) (span structs v code) first s l
@@ -106,7 +106,7 @@ module _ {S : Setting} {H : Heap} {structs types cells : List ℕ} (hs : Setting
       words_looked (on s') (words_on g t k) =
           looks_on g t
           (record { each = λ i l. record { index = first + i; needed = found_needed i l (k i l).code_is; marked = (k i l).marked } })
-      words_looked (off marks queue) (words_off a) = looks_off (λ g. a (good_codes m g))
+      words_looked (off marks queue) (words_off a) = looks_off (λ g. a (good_codes first m g))
 
       -- all words of a pointer to anything but a struct are claimed to be alike
       same_claim : (eqb (tag_in code) 2 ≡ false) → (i : ℕ) → claim structs types code i ≡ claim structs types code 0
@@ -116,7 +116,7 @@ module _ {S : Setting} {H : Heap} {structs types cells : List ℕ} (hs : Setting
       looks_words : {P : ℕ → Type 0} (s : Seen) → Fit cells s → ((i j : ℕ) → Needed structs types cells v code i j → P j)
           → Looks P s v code (look_words structs types cells code first (span structs v code) s)
       looks_words {P} s t p =
-          let f = found_there cells hh.rising v (span structs v code - 1) m in
+          let f = found_there cells hh.rising v (span structs v code - 1) first m in
           let b : first + span structs v code ≤ entries cells = omega (arith, f.below) in
           let z : first + 0 ≡ first = omega arith in
           let joins : Joins cells P (claim structs types code) (span structs v code) first =
@@ -136,10 +136,11 @@ module _ {S : Setting} {H : Heap} {structs types cells : List ℕ} (hs : Setting
   unfolding model.look_at
   looks {P} s v code t p =
       let k : ℕ = span structs v code in
-      let j : ℕ = covered cells v (k - 1) in
       choose_told (Looks P s v code) (eqb k 0) (λ _. on s) _
       (λ u. looks_on (grown_none s) t (record { each = λ i l. absurd (let z : k ≡ 0 = eqb-true k 0 u in omega arith) }))
-      (λ u. let n : k ≡ 0 → ⊥ = eqb-false k 0 u in
-      choose_told (Looks P s v code) (eqb j (entries cells)) (λ _. off s.marks s.queue) _
-      (λ w. looks_off (λ g. good_found v code n g (eqb-true j (entries cells) w)))
-      (λ w. looks_words v code n (eqb-false j (entries cells) w) s t p))
+      (λ u. go (eqb-false k 0 u) (covered cells v (k - 1)) refl)
+    where
+      go : (span structs v code ≡ 0 → ⊥) → (o : Option ℕ) → covered cells v (span structs v code - 1) ≡ o
+          → Looks P s v code (look_found structs types cells o code (span structs v code) s)
+      go n (Some first) e = looks_words v code n first e s t p
+      go n None e = looks_off (λ g. good_found v code n g e)

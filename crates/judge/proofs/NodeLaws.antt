@@ -1,5 +1,6 @@
 -- The judge over the node table is the executable judge of the expression that the table holds. The first bad literal is not passed: as
 -- long as a part is good, it lies behind the part.
+use Rattle.std.specs.Prelude.{Result, Ok, Err}
 use mathlib.Core.Path.{◌≡◌, refl, sym, ◌∙◌, ap}
 use mathlib.Core.Logic.{⊎_elim}
 use mathlib.Core.Bool.{Bool, true, false}
@@ -30,6 +31,7 @@ use Rattle.calculus.specs.declared.Operation.{Operation}
 use Rattle.calculus.specs.declared.Operation.TheVariants as op
 use Rattle.calculus.specs.declared.Fault.{Fault}
 use Rattle.calculus.specs.declared.Fault.TheVariants.{NoRule, IllTyped}
+use Rattle.calculus.specs.declared.Refusal.{Refusal}
 use Rattle.calculus.proofs.Same.{as_true, refuted}
 use Rattle.image.specs.Tabled.{one_operation, one_argument, one_kind, two_operation, Row, Spans, s_lit, s_var, s_malloc, s_bind, s_one, s_two}
 use Rattle.image.specs.Shape.{SmallExpr, small_lit, small_var, small_malloc, small_bind, small_one, small_two}
@@ -40,8 +42,6 @@ use Rattle.judge.specs.Literals.{is_literal}
 use Rattle.judge.specs.Parts.{parts_of, as_access, is_access, inner_mode, is_let, inner_lets, bound_with}
 use Rattle.judge.specs.Rules as model
 use Rattle.judge.specs.Nodes.{Judging, judging, then_judging, judge_node}
-use Rattle.judge.specs.declared.NodeTold.{NodeTold}
-use Rattle.judge.specs.declared.NodeTold.TheVariants as told
 use Rattle.judge.proofs.Lists.{in_row_lem}
 use Rattle.judge.proofs.HeldTables.{SettingCoded}
 use Rattle.judge.proofs.Shapes.{size_of_lem}
@@ -104,13 +104,13 @@ bounds_less {Γ} {bound} {κ} b =
 -- kinds still has those in scope.
 pub data Meets (first : ℕ) (Γ : List Kind) (bound : List ℕ) (end : ℕ) : Verdict → Judging → Type 0 where
   meets_good : {κ : Kind} {bound' : List ℕ} → Small κ → Bounds Γ bound' → length bound' ≡ length bound → end ≤ first
-      → Meets first Γ bound end (good κ) (judging (told.Good (packed κ)) bound')
+      → Meets first Γ bound end (good κ) (judging (Ok (packed κ)) bound')
   meets_bad : {f : Fault} {i : ℕ} {bound' : List ℕ}
-      → Meets first Γ bound end (bad f i) (judging (told.Bad (record { fault = f; place = i })) bound')
+      → Meets first Γ bound end (bad f i) (judging (Err (record { fault = f; place = i })) bound')
 
 module _ {first : ℕ} {Γ : List Kind} {bound : List ℕ} {end : ℕ} where
   -- a rule at the end
-  ruled : {v : Verdict} {t : NodeTold} {bound' : List ℕ} → ToldRight v t → Bounds Γ bound' → length bound' ≡ length bound → end ≤ first
+  ruled : {v : Verdict} {t : Result ℕ Refusal} {bound' : List ℕ} → ToldRight v t → Bounds Γ bound' → length bound' ≡ length bound → end ≤ first
       → Meets first Γ bound end v (judging t bound')
   ruled (right_good s) b l e = meets_good s b l e
   ruled right_bad b l e = meets_bad
@@ -223,7 +223,7 @@ module _ {S : Setting} {H : Heap} {structs types table : List ℕ} {first : ℕ}
       where
         go : (t : Bool) → ltb k (length Γ) ≡ t
             → Meets first Γ bound (i + 1) (choose t (λ _. good (get_or Γ k Int)) (λ _. bad NoRule i))
-            (judging (choose t (λ _. told.Good (get_or bound (length Γ - 1 - k) 0)) (λ _. model.no_rule_told i)) bound)
+            (judging (choose t (λ _. Ok (get_or bound (length Γ - 1 - k) 0)) (λ _. model.no_rule_told i)) bound)
         go true e =
             rw (b.codes k (ltb-true k (length Γ) e))
             (meets_good (b.small k) b refl (omega (arith, beyond i op.Variable r.operation_is refl l h)))
@@ -255,7 +255,7 @@ module _ {S : Setting} {H : Heap} {structs types table : List ℕ} {first : ℕ}
   -- a let has the type of its body
   let_meets : {end end' : ℕ} {Γ : List Kind} {κ : Kind} {bound bound₁ : List ℕ} {v : Verdict} {j : Judging}
       → length bound₁ ≡ length bound → Meets first (κ ∷ Γ) bound₁ end v j → end' ≤ end
-      → Meets first Γ bound end' v (then_judging j (λ y bound₂. judging (told.Good y) bound₂))
+      → Meets first Γ bound end' v (then_judging j (λ y bound₂. judging (Ok y) bound₂))
   let_meets k (meets_good s b l e) h = meets_good s (bounds_less b) (l ∙ k) (omega arith)
   let_meets k meets_bad h = meets_bad
 
@@ -283,7 +283,7 @@ module _ {S : Setting} {H : Heap} {structs types table : List ℕ} {first : ℕ}
       )
       (then_meets (λ κ. judge S H whole (κ ∷ Γ) m (suc i + nodes a) e)
       (λ x bound₁. then_judging (judge_node structs types table first (left - 1) false (length Γ + 1) m (node_number table i 3) (set bound₁ (length Γ) x))
-      (λ y bound₂. judging (told.Good y) bound₂))
+      (λ y bound₂. judging (Ok y) bound₂))
       (meets p s whole Γ m (left - 1) bound (omega arith) (omega arith) (beyond i op.Let r.operation_is refl (omega arith) h) b (omega arith))
       (λ κ bound₁ w b₁ k e₁. rw (r.second_is, add-one (length Γ))
       (let_meets (length-set bound₁ (length Γ) (packed κ) ∙ k)

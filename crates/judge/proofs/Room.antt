@@ -1,4 +1,6 @@
 -- The queue ends within its numbers and keeps its length, whatever is looked at; and words that are found present lie within the table.
+use Rattle.std.specs.Prelude.{Option, Some, None}
+use Rattle.std.proofs.lemmas.Option.{none-some}
 use mathlib.Core.Path.{◌≡◌, refl, ◌∙◌}
 use mathlib.Core.Bool.{Bool, true, false}
 use mathlib.Core.List.{List}
@@ -11,14 +13,10 @@ use Rattle.choice.specs.Choice.{choose, choose_case, choose_told}
 use Rattle.judge.specs.Tables.{entry_at, node_number, operation_at, tag_in}
 use Rattle.judge.specs.Addresses.{present, covered, entries, place}
 use Rattle.judge.specs.Marks.{Seen, seen, alone, marked}
-use Rattle.judge.specs.Literals.{Looking, on, off, span, claim, look_alike, look_fields, look_words, look_at, drain, literal_look}
+use Rattle.judge.specs.Literals.{Looking, on, off, span, claim, look_alike, look_fields, look_found, look_at, drain, literal_look}
 use Rattle.judge.specs.Literals.{is_literal, node_look, then_look}
 
 -- ---- the words that are found
--- the `more` words behind entry j are in the table
-pub record Fits (cells : List ℕ) (more j : ℕ) : Type 0 where
-  pub fits : (j ≡ entries cells → ⊥) → j + more < entries cells
-
 present_fits : (cells : List ℕ) (n j address more : ℕ) → present cells n j address more ≡ true → j + more < n
 unfolding present
 present_fits cells n j address more = go (leb n j) (leb (n - j) more) (leb-false n j) (leb-false (n - j) more)
@@ -32,13 +30,14 @@ present_fits cells n j address more = go (leb n j) (leb (n - j) more) (leb-false
     go false true f g e = absurd (let z : ◌≡◌ {A = ℕ} 0 1 = cc in omega arith)
     go false false f g e = omega (arith, f refl, g refl)
 
-pub covered_fits : (cells : List ℕ) (address more : ℕ) → Fits cells more (covered cells address more)
+-- the `more` words behind the entry that is found are in the table
+pub covered_fits : (cells : List ℕ) (address more j : ℕ) → covered cells address more ≡ Some j → j + more < entries cells
 unfolding covered
-covered_fits cells address more =
-    let j : ℕ = place cells (entries cells) address in
-    choose_told (Fits cells more) (present cells (entries cells) j address more) (λ _. j) (λ _. entries cells)
-    (λ t. record { fits = λ _. present_fits cells (entries cells) j address more t })
-    (λ _. record { fits = λ n. absurd (n refl) })
+covered_fits cells address more j =
+    let i : ℕ = place cells (entries cells) address in
+    choose_told (λ (o : Option ℕ). o ≡ Some j → j + more < entries cells) (present cells (entries cells) i address more) (λ _. Some i) (λ _. None)
+    (λ t e. let s : i ≡ j = cc in rw s at (present_fits cells (entries cells) i address more t))
+    (λ _ e. absurd (none-some j e))
 
 -- ---- the queue
 -- from s to s': the queue is as long as it was, and ends within it if it did
@@ -102,19 +101,19 @@ module _ (structs types cells : List ℕ) where
       (fields_after code first left (i + 1) (marked (claim structs types code i) alone (first + i) s)))
       after_off
 
+  found_after : (found : Option ℕ) (code count : ℕ) (s : Seen) → After s (look_found structs types cells found code count s)
+  found_after (Some j) code count s =
+      choose_case (After s) (eqb (tag_in code) 2) (λ _. look_fields structs types cells code j count 0 s)
+      (λ _. look_alike cells (claim structs types code 0) count count j s)
+      (fields_after code j count 0 s)
+      (alike_after cells (claim structs types code 0) count count j s)
+  found_after None code count s = after_off
+
   pub look_after : (value code : ℕ) (s : Seen) → After s (look_at structs types cells value code s)
   unfolding look_at
   look_after value code s =
       let k : ℕ = span structs value code in
-      let j : ℕ = covered cells value (k - 1) in
-      choose_case (After s) (eqb k 0) (λ _. on s) _
-      (after_on (keeps_none s))
-      (choose_case (After s) (eqb j (entries cells)) (λ _. off s.marks s.queue) (λ _. look_words structs types cells code j k s)
-      after_off
-      (choose_case (After s) (eqb (tag_in code) 2) (λ _. look_fields structs types cells code j k 0 s)
-      (λ _. look_alike cells (claim structs types code 0) k k j s)
-      (fields_after code j k 0 s)
-      (alike_after cells (claim structs types code 0) k k j s)))
+      choose_case (After s) (eqb k 0) (λ _. on s) _ (after_on (keeps_none s)) (found_after (covered cells value (k - 1)) code k s)
 
   pub drain_after : (deep head : ℕ) (s : Seen) → After s (drain structs types cells deep head s)
   unfolding drain

@@ -1,4 +1,5 @@
 -- Each rule over codes says what the definition's rule says of their kinds.
+use Rattle.std.specs.Prelude.{Result, Ok, Err}
 use mathlib.Core.Path.{◌≡◌, refl, sym, ◌∙◌, ap}
 use mathlib.Core.Bool.{Bool, true, false, not}
 use mathlib.Core.List.{List}
@@ -25,29 +26,28 @@ use Rattle.calculus.specs.declared.Act.{Act}
 use Rattle.calculus.specs.declared.Act.TheVariants.{Assign, Sum}
 use Rattle.calculus.specs.declared.Fault.{Fault}
 use Rattle.calculus.specs.declared.Fault.TheVariants.{NoRule}
+use Rattle.calculus.specs.declared.Refusal.{Refusal}
 use Rattle.calculus.proofs.Same.{as_true, refuted, same_kind_lem, kind_same}
 use Rattle.judge.specs.Tables.{tag_in, code_of, field_at}
 use Rattle.judge.specs.Parts.{as_access}
 use Rattle.judge.specs.Rules as model
 use Rattle.judge.specs.Rules.{then_told}
-use Rattle.judge.specs.declared.NodeTold.{NodeTold}
-use Rattle.judge.specs.declared.NodeTold.TheVariants as told
 use Rattle.judge.proofs.HeldTables.{SettingCoded}
 use Rattle.judge.proofs.Shapes.{Shape, shape_int, shape_word, shape_struct, shape_array, shape, Side, even, odd, side}
 use Rattle.judge.proofs.Shapes.{kind_int, kind_word_lem, kind_struct, kind_array}
 
 -- the code's verdict is the definition's: a kind whose numbers fit, by its code, or the same fault
-pub data ToldRight : Verdict → NodeTold → Type 0 where
-  right_good : {κ : Kind} → Small κ → ToldRight (good κ) (told.Good (packed κ))
-  right_bad : {f : Fault} {i : ℕ} → ToldRight (bad f i) (told.Bad (record { fault = f; place = i }))
+pub data ToldRight : Verdict → Result ℕ Refusal → Type 0 where
+  right_good : {κ : Kind} → Small κ → ToldRight (good κ) (Ok (packed κ))
+  right_bad : {f : Fault} {i : ℕ} → ToldRight (bad f i) (Err (record { fault = f; place = i }))
 
 -- a kind by a test, or no rule
 pub right_if : (t : Bool) (κ : Kind) (i : ℕ) → (t ≡ true → Small κ)
-    → ToldRight (choose t (λ _. good κ) (λ _. bad NoRule i)) (choose t (λ _. told.Good (packed κ)) (λ _. model.no_rule_told i))
+    → ToldRight (choose t (λ _. good κ) (λ _. bad NoRule i)) (choose t (λ _. Ok (packed κ)) (λ _. model.no_rule_told i))
 right_if true κ i s = right_good (s refl)
 right_if false κ i s = right_bad
 
-pub right_then : {v : Verdict} {t : NodeTold} (go : Kind → Verdict) (go' : ℕ → NodeTold) → ToldRight v t
+pub right_then : {v : Verdict} {t : Result ℕ Refusal} (go : Kind → Verdict) (go' : ℕ → Result ℕ Refusal) → ToldRight v t
     → ((κ : Kind) → Small κ → ToldRight (go κ) (go' (packed κ))) → ToldRight (then_judge v go) (then_told t go')
 right_then go go' (right_good s) f = f _ s
 right_then go go' right_bad f = right_bad
@@ -123,7 +123,7 @@ module _ {S : Setting} {structs types : List ℕ} (h : SettingCoded S structs ty
     where
       element : ToldRight
           (choose (typing.follows m (mode_of (code % 2))) (λ _. good (kind_of S (number_in code))) (λ _. bad NoRule i))
-          (choose (model.follows_code m code) (λ _. told.Good (code_of types (number_in code))) (λ _. model.no_rule_told i))
+          (choose (model.follows_code m code) (λ _. Ok (code_of types (number_in code))) (λ _. model.no_rule_told i))
       element =
           rw (follows_same m code, h.codes (number_in code))
           (right_if (model.follows_code m code) (kind_of S (number_in code)) i (λ _. h.small (number_in code)))
@@ -155,7 +155,7 @@ module _ {S : Setting} {structs types : List ℕ} (h : SettingCoded S structs ty
   assign_told_right {κ} {κ'} role s s' =
       rw (access_then κ (λ ε. choose (same_kind κ' ε) (λ _. good ε) (λ _. bad NoRule i)))
       (right_then (λ ε. choose (same_kind κ' ε) (λ _. good ε) (λ _. bad NoRule i))
-      (λ element. choose (eqb (packed κ') element) (λ _. told.Good element) (λ _. model.no_rule_told i))
+      (λ element. choose (eqb (packed κ') element) (λ _. Ok element) (λ _. model.no_rule_told i))
       (access_told_right s)
       (λ ε t. rw (same_code s' t) (right_if (eqb (packed κ') (packed ε)) ε i (λ _. t))))
 
@@ -167,12 +167,12 @@ module _ {S : Setting} {structs types : List ℕ} (h : SettingCoded S structs ty
       there : (t : Bool) → ltb f (length (fields_of S (number_in code))) ≡ t
           → ToldRight
           (choose t (λ _. good (Word (mode_of (code % 2)) (get_or (fields_of S (number_in code)) f 0))) (λ _. bad NoRule i))
-          (choose t (λ _. told.Good (2 + code % 2 + 8 * (field_at structs (number_in code) f % 256))) (λ _. model.no_rule_told i))
+          (choose t (λ _. Ok (2 + code % 2 + 8 * (field_at structs (number_in code) f % 256))) (λ _. model.no_rule_told i))
       there true e =
           let b : get_or (fields_of S (number_in code)) f 0 < 256 = h.bytes (number_in code) f in
           let k : field_at structs (number_in code) f ≡ get_or (fields_of S (number_in code)) f 0 = h.fields (number_in code) f (ltb-true _ _ e) in
           let w : ToldRight (good (Word (mode_of (code % 2)) (get_or (fields_of S (number_in code)) f 0)))
-          (told.Good (2 + mode_number (mode_of (code % 2)) + 8 * get_or (fields_of S (number_in code)) f 0)) = right_good (small_word b) in
+          (Ok (2 + mode_number (mode_of (code % 2)) + 8 * get_or (fields_of S (number_in code)) f 0)) = right_good (small_word b) in
           rw (k, mod-eq_of_lt b) (rw (number_of_mode code) at w)
       there false e = right_bad
 
@@ -199,7 +199,7 @@ module _ {S : Setting} {structs types : List ℕ} (h : SettingCoded S structs ty
   sum_kinds : (role : Role) (κ' : Kind) {κ : Kind} → Small κ
       → ToldRight (definition.sum_rule S m i role κ κ')
       (choose (same_kind κ' Int)
-      (λ _. choose (either (same_kind κ Int) (both (as_access role) (is_array κ))) (λ _. told.Good (packed κ)) (λ _. model.no_rule_told i))
+      (λ _. choose (either (same_kind κ Int) (both (as_access role) (is_array κ))) (λ _. Ok (packed κ)) (λ _. model.no_rule_told i))
       (λ _. model.no_rule_told i))
   unfolding same_kind
   sum_kinds role κ' small_int = right_if (same_kind κ' Int) Int i (λ _. small_int)

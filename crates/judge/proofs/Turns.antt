@@ -1,5 +1,6 @@
 -- The judge of nodes, opened as the code comes by its places: no node remains, a node without parts, a first part that is bad, a node with
 -- one part, a second part that is bad, a node with two parts; and what an access differs in.
+use Rattle.std.specs.Prelude.{Ok, Err}
 use mathlib.Core.Path.{◌≡◌, refl, sym}
 use mathlib.Core.Bool.{Bool, true, false, not}
 use mathlib.Core.List.{List}
@@ -20,7 +21,6 @@ use Rattle.judge.specs.Tables.{node_number, operation_at}
 use Rattle.judge.specs.Parts.{parts_of, is_access, on_wholes, inner_mode, is_let, inner_lets, bound_with}
 use Rattle.judge.specs.Rules.{no_rule_told, leaf_told, one_told, act_told, two_told}
 use Rattle.judge.specs.Nodes.{Judging, judging, judge_node}
-use Rattle.judge.specs.declared.NodeTold.TheVariants.{Good, Bad}
 use Rattle.judge.proofs.Lists.{has_number}
 
 is_suc : (n : ℕ) → (n ≡ 0 → ⊥) → n ≡ suc (n - 1)
@@ -131,11 +131,11 @@ module _ (structs types nodes : List ℕ) (first : ℕ) where
     is_leaf p = rw (is_suc left n, p)
 
     module _ (p : parts_of o ≡ 0 → ⊥) where
-      pub part_bad : (r : Refusal) (bound₁ : List ℕ) → judging (Bad r) bound₁ ≡ first_part → judging (Bad r) bound₁ ≡ here
+      pub part_bad : (r : Refusal) (bound₁ : List ℕ) → judging (Err r) bound₁ ≡ first_part → judging (Err r) bound₁ ≡ here
       unfolding judge_node
       part_bad r bound₁ e = rw (is_suc left n, ne_eqb (parts_of o) 0 p, ← e)
 
-      module _ (x : ℕ) (bound₁ : List ℕ) (e : judging (Good x) bound₁ ≡ first_part) where
+      module _ (x : ℕ) (bound₁ : List ℕ) (e : judging (Ok x) bound₁ ≡ first_part) where
         pub is_one : parts_of o ≡ 1 → judging (one_told structs types nodes mode i o x) bound₁ ≡ here
         unfolding judge_node
         is_one q = rw (is_suc left n, ← e, q)
@@ -145,11 +145,11 @@ module _ (structs types nodes : List ℕ) (first : ℕ) where
             judge_node structs types nodes first (left - 1) false (inner_lets o lets) mode (node_number nodes i 3) (bound_with o lets x bound₁)
 
         module _ (q : parts_of o ≡ 1 → ⊥) where
-          pub second_bad : (r : Refusal) (bound₂ : List ℕ) → judging (Bad r) bound₂ ≡ second_part → judging (Bad r) bound₂ ≡ here
+          pub second_bad : (r : Refusal) (bound₂ : List ℕ) → judging (Err r) bound₂ ≡ second_part → judging (Err r) bound₂ ≡ here
           unfolding judge_node
           second_bad r bound₂ f = rw (is_suc left n, ne_eqb (parts_of o) 0 p, ← e, ne_eqb (parts_of o) 1 q, ← f)
 
-          pub is_two : (y : ℕ) (bound₂ : List ℕ) → judging (Good y) bound₂ ≡ second_part
+          pub is_two : (y : ℕ) (bound₂ : List ℕ) → judging (Ok y) bound₂ ≡ second_part
               → judging (two_told types mode i false o x y) bound₂ ≡ here
           unfolding judge_node
           is_two y bound₂ f = rw (is_suc left n, ne_eqb (parts_of o) 0 p, ← e, ne_eqb (parts_of o) 1 q, ← f)
@@ -162,19 +162,19 @@ module _ (structs types nodes : List ℕ) (first : ℕ) where
     abbrev at_access : Judging
     at_access = judge_node structs types nodes first left true lets mode i bound
 
-    pub side_bad : (r : Refusal) (bound₁ : List ℕ) → judging (Bad r) bound₁ ≡ left_side → judging (Bad r) bound₁ ≡ at_access
+    pub side_bad : (r : Refusal) (bound₁ : List ℕ) → judging (Err r) bound₁ ≡ left_side → judging (Err r) bound₁ ≡ at_access
     unfolding judge_node
     side_bad r bound₁ e = rw (is_suc left n, w.two, w.no_access, w.same_mode mode, ← e)
 
-    module _ (x : ℕ) (bound₁ : List ℕ) (e : judging (Good x) bound₁ ≡ left_side) where
+    module _ (x : ℕ) (bound₁ : List ℕ) (e : judging (Ok x) bound₁ ≡ left_side) where
       abbrev right_side : Judging
       right_side = judge_node structs types nodes first (left - 1) false lets mode (node_number nodes i 3) bound₁
 
-      pub other_bad : (r : Refusal) (bound₂ : List ℕ) → judging (Bad r) bound₂ ≡ right_side → judging (Bad r) bound₂ ≡ at_access
+      pub other_bad : (r : Refusal) (bound₂ : List ℕ) → judging (Err r) bound₂ ≡ right_side → judging (Err r) bound₂ ≡ at_access
       unfolding judge_node
       other_bad r bound₂ f = rw (is_suc left n, w.two, w.no_access, w.same_mode mode, ← e, w.no_let, ← f)
 
-      pub is_act : (y : ℕ) (bound₂ : List ℕ) → judging (Good y) bound₂ ≡ right_side
+      pub is_act : (y : ℕ) (bound₂ : List ℕ) → judging (Ok y) bound₂ ≡ right_side
           → judging (two_told types mode i true (operation_at nodes i) x y) bound₂ ≡ at_access
       unfolding judge_node
       is_act y bound₂ f = rw (is_suc left n, w.two, w.no_access, w.same_mode mode, ← e, w.no_let, ← f)

@@ -1,5 +1,5 @@
 -- Finding addresses in the cell table: a guess and the search by halves, and consecutive words by one comparison.
-use Rattle.std.specs.Prelude.{ℕ, zero, suc, ◌+◌, ◌-◌, ◌/◌, Bool, false, List, eqb, ltb, leb, length}
+use Rattle.std.specs.Prelude.{ℕ, zero, suc, ◌+◌, ◌-◌, ◌/◌, Bool, false, List, Option, Some, None, eqb, ltb, leb, length}
 use Rattle.choice.specs.Choice.{choose}
 use Rattle.judge.specs.Tables.{entry_at}
 
@@ -31,8 +31,8 @@ present cells n j address more =
 abbrev pub entries : List ℕ → ℕ
 entries cells = length cells / 3
 
--- the entry of the first of the words from an address on, `more` behind the first; the count of entries if they aren't all present
-unfoldable pub covered : (cells : List ℕ) (address more : ℕ) → ℕ
+-- the entry of the first of the words from an address on, `more` behind the first, if they are all present
+unfoldable pub covered : (cells : List ℕ) (address more : ℕ) → Option ℕ
 covered cells address more =
     let j : ℕ = place cells (entries cells) address in
-    choose (present cells (entries cells) j address more) (λ _. j) (λ _. entries cells)
+    choose (present cells (entries cells) j address more) (λ _. Some j) (λ _. None)

@@ -1,25 +1,23 @@
 -- The literal check as the code goes about it: a literal's words are looked for and marked, what was marked is looked at in turn, and
 -- the pass ends at the first literal that is off.
-use Rattle.std.specs.Prelude.{ℕ, zero, suc, ◌+◌, ◌-◌, ◌/◌, ◌%◌, Bool, true, false, List, eqb, ltb, leb, length, get_or, set, replicate}
+use Rattle.std.specs.Prelude.{ℕ, zero, suc, ◌+◌, ◌-◌, ◌/◌, ◌%◌, Bool, true, false, List, Option, Some, None, eqb, ltb, leb, length, get_or, set, replicate}
 use Rattle.choice.specs.Choice.{choose}
 use Rattle.cells.specs.Code.{number_in}
 use Rattle.calculus.specs.declared.Operation.{Operation}
 use Rattle.calculus.specs.declared.Operation.TheVariants as op
 use Rattle.judge.specs.Tables.{node_number, operation_at, entry_at, field_at, code_of, tag_in, size_of}
-use Rattle.judge.specs.Addresses.{entries, covered}
+use Rattle.judge.specs.Addresses.{covered}
 use Rattle.judge.specs.Marks.{Seen, seen, alone, marked}
-use Rattle.judge.specs.declared.Looked.{Looked}
-use Rattle.judge.specs.declared.Looked.TheVariants.{On, Off}
 
 -- what was seen, or the marks and the queue where a word was off
 pub data Looking : Type 0 where
   on : Seen → Looking
   off : List ℕ → List ℕ → Looking
 
--- the code's answer with the lent lists
-abbrev pub looking : Looked → List ℕ → List ℕ → Looking
-looking (On tail) marks queue = on (seen marks queue tail)
-looking Off marks queue = off marks queue
+-- the code's answer with the lent lists: where the queue ends, or nothing
+abbrev pub looking : Option ℕ → List ℕ → List ℕ → Looking
+looking (Some tail) marks queue = on (seen marks queue tail)
+looking None marks queue = off marks queue
 
 abbrev pub then_look : Looking → (Seen → Looking) → Looking
 then_look (on s) go = go s
@@ -90,12 +88,16 @@ module _ (structs types cells : List ℕ) where
       (λ _. look_fields code first count 0 s)
       (λ _. look_alike cells (claim structs types code 0) count count first s)
 
+  -- those words, if they were found
+  abbrev pub look_found : Option ℕ → (code count : ℕ) → Seen → Looking
+  look_found (Some first) code count s = look_words code first count s
+  look_found None code count s = off s.marks s.queue
+
   -- the words that a literal needs are there and have the codes claimed: then they are seen
   unfoldable pub look_at : (value code : ℕ) → Seen → Looking
   look_at value code s =
       choose (eqb (span structs value code) 0) (λ _. on s) λ _.
-      choose (eqb (covered cells value (span structs value code - 1)) (entries cells)) (λ _. off s.marks s.queue) λ _.
-      look_words code (covered cells value (span structs value code - 1)) (span structs value code) s
+      look_found (covered cells value (span structs value code - 1)) code (span structs value code) s
 
   -- the entries in the queue from `head` on are looked at, one after another, with those that join it; at most `deep` of them
   unfoldable pub drain : (deep head : ℕ) → Seen → Looking

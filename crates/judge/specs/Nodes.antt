@@ -1,26 +1,25 @@
 -- The judge of nodes over the node table, as the code goes about it: a node's first part, then its second, then the node.
-use Rattle.std.specs.Prelude.{ℕ, zero, suc, ◌+◌, Bool, false, List, eqb}
+use Rattle.std.specs.Prelude.{ℕ, zero, suc, ◌+◌, Bool, false, List, Result, Ok, Err, eqb}
 use Rattle.choice.specs.Choice.{choose}
 use Rattle.cells.specs.declared.Mode.{Mode}
 use Rattle.calculus.specs.declared.Operation.{Operation}
+use Rattle.calculus.specs.declared.Refusal.{Refusal}
 use Rattle.judge.specs.Tables.{node_number, operation_at}
 use Rattle.judge.specs.Parts.{parts_of, is_access, inner_mode, inner_lets, bound_with}
 use Rattle.judge.specs.Rules.{no_rule_told, leaf_told, one_told, two_told}
-use Rattle.judge.specs.declared.NodeTold.{NodeTold}
-use Rattle.judge.specs.declared.NodeTold.TheVariants.{Good, Bad}
 
 -- the verdict on a node, and the lent list of the kinds of bound variables
 pub record Judging : Type 0 where
-  pub told : NodeTold
+  pub told : Result ℕ Refusal
   pub bound : List ℕ
 
-abbrev pub judging : NodeTold → List ℕ → Judging
+abbrev pub judging : Result ℕ Refusal → List ℕ → Judging
 judging told bound = record { told = told; bound = bound }
 
 -- go on with the type of what was found good
-abbrev pub go_on : NodeTold → List ℕ → (ℕ → List ℕ → Judging) → Judging
-go_on (Good x) bound go = go x bound
-go_on (Bad r) bound go = judging (Bad r) bound
+abbrev pub go_on : Result ℕ Refusal → List ℕ → (ℕ → List ℕ → Judging) → Judging
+go_on (Ok x) bound go = go x bound
+go_on (Err r) bound go = judging (Err r) bound
 
 abbrev pub then_judging : Judging → (ℕ → List ℕ → Judging) → Judging
 then_judging j go = go_on j.told j.bound go

@@ -1,5 +1,5 @@
 -- The typing rules over codes, as the code has them: the type of node i from those of its parts. `mode` is that of the code around it.
-use Rattle.std.specs.Prelude.{ℕ, ◌+◌, ◌*◌, ◌-◌, ◌%◌, Bool, true, List, eqb, ltb, get_or}
+use Rattle.std.specs.Prelude.{ℕ, ◌+◌, ◌*◌, ◌-◌, ◌%◌, Bool, true, List, Result, Ok, Err, eqb, ltb, get_or}
 use Rattle.choice.specs.Choice.{choose, both, either}
 use Rattle.cells.specs.Code.{number_in}
 use Rattle.cells.specs.declared.Mode.{Mode}
@@ -8,21 +8,20 @@ use Rattle.calculus.specs.declared.Act.{Act}
 use Rattle.calculus.specs.declared.Act.TheVariants.{Assign, Sum}
 use Rattle.calculus.specs.declared.Operation.{Operation}
 use Rattle.calculus.specs.declared.Operation.TheVariants as op
+use Rattle.calculus.specs.declared.Refusal.{Refusal}
 use Rattle.calculus.specs.declared.Fault.TheVariants.{NoRule, IllTyped}
 use Rattle.judge.specs.Tables.{node_number, field_at, code_of, tag_in, size_of}
-use Rattle.judge.specs.declared.NodeTold.{NodeTold}
-use Rattle.judge.specs.declared.NodeTold.TheVariants.{Good, Bad}
 
-abbrev pub no_rule_told : ℕ → NodeTold
-no_rule_told i = Bad (record { fault = NoRule; place = i })
+abbrev pub no_rule_told : ℕ → Result ℕ Refusal
+no_rule_told i = Err (record { fault = NoRule; place = i })
 
-abbrev pub ill_typed : ℕ → NodeTold
-ill_typed i = Bad (record { fault = IllTyped; place = i })
+abbrev pub ill_typed : ℕ → Result ℕ Refusal
+ill_typed i = Err (record { fault = IllTyped; place = i })
 
 -- go on with the type of what was found good
-abbrev pub then_told : NodeTold → (ℕ → NodeTold) → NodeTold
-then_told (Good x) go = go x
-then_told (Bad r) go = Bad r
+abbrev pub then_told : Result ℕ Refusal → (ℕ → Result ℕ Refusal) → Result ℕ Refusal
+then_told (Ok x) go = go x
+then_told (Err r) go = Err r
 
 -- "An unchecked pointer only in unchecked mode"
 abbrev pub follows_code : Mode → ℕ → Bool
@@ -35,32 +34,32 @@ castable_code Checked code = either (eqb (tag_in code) 0) (eqb (code % 2) 1)
 castable_code Unchecked code = true
 
 -- an access through a pointer to a word (tag 1) or an array (tag 3)
-unfoldable pub access_told : (types : List ℕ) (mode : Mode) (i code : ℕ) → NodeTold
+unfoldable pub access_told : (types : List ℕ) (mode : Mode) (i code : ℕ) → Result ℕ Refusal
 access_told types mode i code =
     choose (eqb (tag_in code % 2) 1)
-    (λ _. choose (follows_code mode code) (λ _. Good (code_of types (number_in code))) (λ _. no_rule_told i))
+    (λ _. choose (follows_code mode code) (λ _. Ok (code_of types (number_in code))) (λ _. no_rule_told i))
     (λ _. no_rule_told i)
 
 -- a field address: a pointer to the field's type, of the same mode
-unfoldable pub field_told : (structs : List ℕ) (i field code : ℕ) → NodeTold
+unfoldable pub field_told : (structs : List ℕ) (i field code : ℕ) → Result ℕ Refusal
 field_told structs i field code =
     choose (eqb (tag_in code) 2)
     (λ _. choose (ltb field (get_or structs (17 * number_in code) 0))
-    (λ _. Good (2 + code % 2 + 8 * (field_at structs (number_in code) field % 256)))
+    (λ _. Ok (2 + code % 2 + 8 * (field_at structs (number_in code) field % 256)))
     (λ _. no_rule_told i))
     (λ _. no_rule_told i)
 
-unfoldable pub cast_told : (mode : Mode) (i code : ℕ) → NodeTold
-cast_told mode i code = choose (castable_code mode code) (λ _. Good code) (λ _. no_rule_told i)
+unfoldable pub cast_told : (mode : Mode) (i code : ℕ) → Result ℕ Refusal
+cast_told mode i code = choose (castable_code mode code) (λ _. Ok code) (λ _. no_rule_told i)
 
 module _ (structs types nodes : List ℕ) (mode : Mode) (i : ℕ) where
   -- a node with one part, of type x
-  abbrev pub one_told : Operation → (x : ℕ) → NodeTold
+  abbrev pub one_told : Operation → (x : ℕ) → Result ℕ Refusal
   one_told op.Literal x = no_rule_told i
   one_told op.Variable x = no_rule_told i
   one_told op.Let x = no_rule_told i
   one_told op.Malloc x = no_rule_told i
-  one_told op.Unchecked x = Good x
+  one_told op.Unchecked x = Ok x
   one_told op.Cast x = cast_told mode i (node_number nodes i 2)
   one_told op.Read x = access_told types mode i x
   one_told (op.Acts o) x = no_rule_told i
@@ -68,30 +67,30 @@ module _ (structs types nodes : List ℕ) (mode : Mode) (i : ℕ) where
   one_told op.Unknown x = no_rule_told i
 
 -- "the value part has that type exactly"
-unfoldable pub assign_told : (types : List ℕ) (mode : Mode) (i x y : ℕ) → NodeTold
+unfoldable pub assign_told : (types : List ℕ) (mode : Mode) (i x y : ℕ) → Result ℕ Refusal
 assign_told types mode i x y =
-    then_told (access_told types mode i x) (λ element. choose (eqb y element) (λ _. Good element) (λ _. no_rule_told i))
+    then_told (access_told types mode i x) (λ element. choose (eqb y element) (λ _. Ok element) (λ _. no_rule_told i))
 
 -- what the left side of a sum may be: an int; under an access also a pointer to an array (tag 3)
 abbrev pub summable : (access : Bool) (x : ℕ) → Bool
 summable access x = either (eqb x 1) (both access (eqb (tag_in x) 3))
 
 -- "both int, result int"; under an access the result is the left side's type, be it int or an array pointer
-unfoldable pub sum_told : (i : ℕ) (access : Bool) (x y : ℕ) → NodeTold
+unfoldable pub sum_told : (i : ℕ) (access : Bool) (x y : ℕ) → Result ℕ Refusal
 sum_told i access x y =
-    choose (eqb y 1) (λ _. choose (summable access x) (λ _. Good x) (λ _. no_rule_told i)) (λ _. no_rule_told i)
+    choose (eqb y 1) (λ _. choose (summable access x) (λ _. Ok x) (λ _. no_rule_told i)) (λ _. no_rule_told i)
 
 module _ (types : List ℕ) (mode : Mode) (i : ℕ) (access : Bool) where
   -- what is done with two values, of types x and y; as an access only a sum differs
-  abbrev pub act_told : Act → (x y : ℕ) → NodeTold
+  abbrev pub act_told : Act → (x y : ℕ) → Result ℕ Refusal
   act_told Assign x y = assign_told types mode i x y
   act_told Sum x y = sum_told i access x y
 
   -- a node with two parts, of types x and y
-  abbrev pub two_told : Operation → (x y : ℕ) → NodeTold
+  abbrev pub two_told : Operation → (x y : ℕ) → Result ℕ Refusal
   two_told op.Literal x y = no_rule_told i
   two_told op.Variable x y = no_rule_told i
-  two_told op.Let x y = Good y
+  two_told op.Let x y = Ok y
   two_told op.Malloc x y = no_rule_told i
   two_told op.Unchecked x y = no_rule_told i
   two_told op.Cast x y = no_rule_told i
@@ -101,19 +100,19 @@ module _ (types : List ℕ) (mode : Mode) (i : ℕ) (access : Bool) where
   two_told op.Unknown x y = no_rule_told i
 
 -- a literal is well typed if it comes before the first bad one
-unfoldable pub literal_told : (nodes : List ℕ) (first i : ℕ) → NodeTold
-literal_told nodes first i = choose (ltb i first) (λ _. Good (node_number nodes i 2)) (λ _. ill_typed i)
+unfoldable pub literal_told : (nodes : List ℕ) (first i : ℕ) → Result ℕ Refusal
+literal_told nodes first i = choose (ltb i first) (λ _. Ok (node_number nodes i 2)) (λ _. ill_typed i)
 
 -- a variable, so many lets out
-unfoldable pub variable_told : (bound : List ℕ) (lets i out : ℕ) → NodeTold
-variable_told bound lets i out = choose (ltb out lets) (λ _. Good (get_or bound (lets - 1 - out) 0)) (λ _. no_rule_told i)
+unfoldable pub variable_told : (bound : List ℕ) (lets i out : ℕ) → Result ℕ Refusal
+variable_told bound lets i out = choose (ltb out lets) (λ _. Ok (get_or bound (lets - 1 - out) 0)) (λ _. no_rule_told i)
 
-unfoldable pub malloc_told : (structs : List ℕ) (i code : ℕ) → NodeTold
-malloc_told structs i code = choose (ltb 0 (size_of structs code)) (λ _. Good code) (λ _. no_rule_told i)
+unfoldable pub malloc_told : (structs : List ℕ) (i code : ℕ) → Result ℕ Refusal
+malloc_told structs i code = choose (ltb 0 (size_of structs code)) (λ _. Ok code) (λ _. no_rule_told i)
 
 module _ (bound structs nodes : List ℕ) (first lets i : ℕ) where
   -- a node without parts
-  abbrev pub leaf_told : Operation → NodeTold
+  abbrev pub leaf_told : Operation → Result ℕ Refusal
   leaf_told op.Literal = literal_told nodes first i
   leaf_told op.Variable = variable_told bound lets i (node_number nodes i 1)
   leaf_told op.Let = no_rule_told i

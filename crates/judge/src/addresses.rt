@@ -50,15 +50,15 @@ fn present(cells: &[u64], n: usize, j: usize, address: u64, more: usize) -> bool
     false
 }
 
-// The entry of the first of the words from an address on, `more` behind the first; the count of entries if they aren't all present.
-pub fn covered(cells: &[u64], address: u64, more: usize) -> usize
+// The entry of the first of the words from an address on, `more` behind the first, if they are all present.
+pub fn covered(cells: &[u64], address: u64, more: usize) -> Option<usize>
     ensures { result ≡ covered cells.now address more }
 {
     let n = cells.len() / 3;
     let j = place(cells, n, address);
     if present(cells, n, j, address, more) {
-        j
+        Some(j)
     } else {
-        n
+        None
     }
 }

@@ -16,30 +16,7 @@ mod parts;
 mod rules;
 mod tables;
 
-// The verdict on a script: its type, or the fault with the number of the node that has it.
-#[derive(Clone, Copy)]
-pub enum Judged {
-    Good(Kind),
-    Bad(Refusal),
-}
-
-// The verdict on a node, its type by its code.
-#[derive(Clone, Copy)]
-pub enum NodeTold {
-    Good(u64),
-    Bad(Refusal),
-}
-
-// Whether a literal, or what was marked for it, can still be well typed.
-#[derive(Clone, Copy)]
-pub enum Looked {
-    // All that was looked at is there; the queue now ends here.
-    On(usize),
-    // A word that has to be there isn't, or isn't of the type claimed.
-    Off,
-}
-
-// The script in the lent tables is judged. `marks` has a number for each entry of the cell table, `queue` as many, `bound` one for each
+// The verdict on the script in the lent tables: its type, or the fault with the number of the node that has it. `marks` has a number for each entry of the cell table, `queue` as many, `bound` one for each
 // let that the expression nests.
 pub fn judge_script(
     structs: &[u64],
@@ -49,13 +26,13 @@ pub fn judge_script(
     marks: &mut [u16],
     queue: &mut [u64],
     bound: &mut [u64],
-) -> Judged
+) -> Result<Kind, Refusal>
     ensures { ScriptJudged structs.now types.now cells.now nodes.now
         marks.old queue.old bound.old
         result marks.new queue.new bound.new }
 {
     let first = first_bad(marks, queue, structs, types, cells, nodes);
-    match judge_node(
+    let code = judge_node(
         bound,
         nodes.len() / 4,
         structs,
@@ -65,8 +42,6 @@ pub fn judge_script(
         0,
         Mode::Checked,
         0,
-    ) {
-        NodeTold::Good(code) => Judged::Good(Kind::from(code)),
-        NodeTold::Bad(refusal) => Judged::Bad(refusal),
-    }
+    )?;
+    Ok(Kind::from(code))
 }

@@ -4,7 +4,6 @@ ghost use Rattle.std.specs.Prelude.{◌+◌, ◌<◌, ◌≤◌, ◌^◌, ◌≡
 ghost use Rattle.judge.specs.Marks.{seen};
 ghost use Rattle.judge.specs.Literals.{span, claim, look_fields, look_alike, look_at, literal_look, is_literal, node_look, first_bad, looking, found};
 
-use crate::Looked;
 use crate::addresses::covered;
 use crate::marks::{mark, mark_at, put_mark, wipe};
 use crate::tables::{entry, field_at, index, operation_at, row, size_of, type_code, wide};
@@ -36,7 +35,8 @@ fn claim(structs: &[u64], types: &[u64], code: u64, i: usize) -> u64
     type_code(types, of)
 }
 
-// `count` entries from `first` on have the codes that a pointer to a struct claims: then they are marked. Fields are few and each has a code
+// `count` entries from `first` on have the codes that a pointer to a struct claims: then they are marked. Answers where the queue then
+// ends; nothing if a word has another code. So do the functions below. Fields are few and each has a code
 // of its own, so a field's mark reaches no further than the field.
 fn look_fields(
     marks: &mut [u16],
@@ -48,7 +48,7 @@ fn look_fields(
     code: u64,
     first: usize,
     count: usize,
-) -> Looked
+) -> Option<usize>
     requires { first + count < 2 ^ 64 }
     ensures { looking result marks.new queue.new
         ≡ look_fields structs.now types.now cells.now code first count 0
@@ -59,12 +59,12 @@ fn look_fields(
     while i < count {
         let kind = claim(structs, types, code, i);
         if entry(cells, first + i, 2) != kind {
-            return Looked::Off;
+            return None;
         }
         end = mark(marks, queue, end, first + i, kind, 1);
         i += 1;
     }
-    Looked::On(end)
+    Some(end)
 }
 
 // `count` entries from `first` on have this code: then they are marked. What a mark reaches over has the same code and is passed over. Each
@@ -78,7 +78,7 @@ fn look_alike(
     code: u64,
     first: usize,
     count: usize,
-) -> Looked
+) -> Option<usize>
     requires { (first + count < 2 ^ 64) × (count < 65536) }
     ensures { looking result marks.new queue.new
         ≡ look_alike cells.now code count count first (seen marks.old queue.old tail) }
@@ -88,7 +88,7 @@ fn look_alike(
     let mut left = count;
     while 0 < left {
         if entry(cells, j, 2) != code {
-            return Looked::Off;
+            return None;
         }
         let known = mark_at(marks, j);
         if known == 0 {
@@ -97,7 +97,7 @@ fn look_alike(
             left -= 1;
         } else {
             if wide(left) <= known {
-                return Looked::On(end);
+                return Some(end);
             }
             put_mark(marks, j, wide(left));
             let far = index(known);
@@ -105,7 +105,7 @@ fn look_alike(
             left -= far;
         }
     }
-    Looked::On(end)
+    Some(end)
 }
 
 // The words that a literal needs are there and have the codes claimed: then they are marked.
@@ -118,18 +118,15 @@ fn look_at(
     tail: usize,
     value: u64,
     code: u64,
-) -> Looked
+) -> Option<usize>
     ensures { looking result marks.new queue.new
         ≡ look_at structs.now types.now cells.now value code (seen marks.old queue.old tail) }
 {
     let needed = span(structs, value, code);
     if needed == 0 {
-        return Looked::On(tail);
+        return Some(tail);
     }
-    let first = covered(cells, value, needed - 1);
-    if first == cells.len() / 3 {
-        return Looked::Off;
-    }
+    let first = covered(cells, value, needed - 1)?;
     if code % 8 / 2 == 2 {
         return look_fields(
             marks, queue, structs, types, cells, tail, code, first, needed,
@@ -150,7 +147,7 @@ fn literal_look(
     tail: usize,
     value: u64,
     code: u64,
-) -> Looked
+) -> Option<usize>
     requires { tail ≤ length queue.old }
     ensures { looking result marks.new queue.new
         ≡ literal_look structs.now types.now cells.now value code (seen marks.old queue.old tail) }
@@ -160,11 +157,9 @@ fn literal_look(
     let mut held = value;
     let mut kind = code;
     loop {
-        let Looked::On(next) = look_at(marks, queue, structs, types, cells, end, held, kind) else {
-            return Looked::Off;
-        };
+        let next = look_at(marks, queue, structs, types, cells, end, held, kind)?;
         if next <= head {
-            return Looked::On(next);
+            return Some(next);
         }
         let j = index(word(queue, head));
         held = entry(cells, j, 1);
@@ -201,7 +196,7 @@ fn node_look(
     nodes: &[u64],
     tail: usize,
     i: usize,
-) -> Looked
+) -> Option<usize>
     requires { tail ≤ length queue.old }
     ensures { looking result marks.new queue.new
         ≡ node_look structs.now types.now cells.now nodes.now i
@@ -212,7 +207,7 @@ fn node_look(
         let code = row(nodes, i, 2);
         return literal_look(marks, queue, structs, types, cells, tail, value, code);
     }
-    Looked::On(tail)
+    Some(tail)
 }
 
 // The number of the first literal that isn't well typed over the cells; the count of nodes if there is none.
@@ -233,7 +228,7 @@ pub fn first_bad(
     let mut tail = 0;
     let mut i = 0;
     while i < count {
-        let Looked::On(next) = node_look(marks, queue, structs, types, cells, nodes, tail, i) else {
+        let Some(next) = node_look(marks, queue, structs, types, cells, nodes, tail, i) else {
             return i;
         };
         tail = next;

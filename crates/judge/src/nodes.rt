@@ -2,15 +2,15 @@
 ghost use Rattle.std.specs.Prelude.{◌+◌, ◌<◌, ◌^◌, ◌≡◌, true, false};
 ghost use Rattle.judge.specs.Nodes.{judging, judge_node};
 
-use crate::NodeTold;
 use crate::parts::{bind_kind, inner_lets, inner_mode, is_access, on_wholes, parts};
 use crate::rules::{leaf_told, no_rule, one_told, two_told};
 use crate::tables::{index, operation_at, row};
+use calculus::Refusal;
 use cells::Mode;
 
 // The type of node i, in code of this mode and inside `lets` lets. No more than `left` nodes remain, this one included; `bad` is the
 // first bad literal.
-#[cycle(judge_access_judge_node)]
+#[cycle(judging)]
 pub fn judge_node(
     bound: &mut [u64],
     left: usize,
@@ -21,7 +21,7 @@ pub fn judge_node(
     lets: usize,
     mode: Mode,
     i: usize,
-) -> NodeTold
+) -> Result<u64, Refusal>
     requires { lets + left < 2 ^ 64 }
     ensures { judging result bound.new
         ≡ judge_node structs.now types.now nodes.now bad left false lets mode i bound.old }
@@ -35,14 +35,11 @@ pub fn judge_node(
     if count == 0 {
         return leaf_told(bound, structs, nodes, bad, lets, i, operation);
     }
-    let part = if is_access(operation) {
-        judge_access(bound, rest, structs, types, nodes, bad, lets, mode, i + 1)
+    let x = if is_access(operation) {
+        judge_access(bound, rest, structs, types, nodes, bad, lets, mode, i + 1)?
     } else {
         let inside = inner_mode(operation, mode);
-        judge_node(bound, rest, structs, types, nodes, bad, lets, inside, i + 1)
-    };
-    let NodeTold::Good(x) = part else {
-        return part;
+        judge_node(bound, rest, structs, types, nodes, bad, lets, inside, i + 1)?
     };
     if count == 1 {
         return one_told(structs, types, nodes, mode, i, operation, x);
@@ -50,14 +47,12 @@ pub fn judge_node(
     bind_kind(bound, operation, lets, x);
     let second = index(row(nodes, i, 3));
     let deep = inner_lets(operation, lets);
-    match judge_node(bound, rest, structs, types, nodes, bad, deep, mode, second) {
-        NodeTold::Good(y) => two_told(types, mode, i, false, operation, x, y),
-        NodeTold::Bad(refusal) => NodeTold::Bad(refusal),
-    }
+    let y = judge_node(bound, rest, structs, types, nodes, bad, deep, mode, second)?;
+    two_told(types, mode, i, false, operation, x, y)
 }
 
 // The type of the pointer that node i is for an access. "An access judges the two sides of a sum itself."
-#[cycle(judge_access_judge_node)]
+#[cycle(judging)]
 fn judge_access(
     bound: &mut [u64],
     left: usize,
@@ -68,7 +63,7 @@ fn judge_access(
     lets: usize,
     mode: Mode,
     i: usize,
-) -> NodeTold
+) -> Result<u64, Refusal>
     requires { lets + left < 2 ^ 64 }
     ensures { judging result bound.new
         ≡ judge_node structs.now types.now nodes.now bad left true lets mode i bound.old }
@@ -79,15 +74,10 @@ fn judge_access(
     let operation = operation_at(nodes, i);
     if on_wholes(operation) {
         let rest = left - 1;
-        let side = judge_node(bound, rest, structs, types, nodes, bad, lets, mode, i + 1);
-        let NodeTold::Good(x) = side else {
-            return side;
-        };
+        let x = judge_node(bound, rest, structs, types, nodes, bad, lets, mode, i + 1)?;
         let second = index(row(nodes, i, 3));
-        return match judge_node(bound, rest, structs, types, nodes, bad, lets, mode, second) {
-            NodeTold::Good(y) => two_told(types, mode, i, true, operation, x, y),
-            NodeTold::Bad(refusal) => NodeTold::Bad(refusal),
-        };
+        let y = judge_node(bound, rest, structs, types, nodes, bad, lets, mode, second)?;
+        return two_told(types, mode, i, true, operation, x, y);
     }
     judge_node(bound, left, structs, types, nodes, bad, lets, mode, i)
 }

@@ -4,26 +4,25 @@ ghost use Rattle.judge.specs.Rules.{no_rule_told, ill_typed, follows_code, casta
 ghost use Rattle.judge.specs.Rules.{assign_told, summable, sum_told, act_told, two_told};
 ghost use Rattle.judge.specs.Rules.{literal_told, variable_told, malloc_told, leaf_told};
 
-use crate::NodeTold;
 use crate::tables::{field_at, index, row, size_of, type_code, wide};
 use calculus::{Act, Fault, Operation, Refusal};
 use cells::{Mode, word};
 
 // No typing rule fits node i.
-pub fn no_rule(i: usize) -> NodeTold
+pub fn no_rule(i: usize) -> Result<u64, Refusal>
     ensures { result ≡ no_rule_told i }
 {
-    NodeTold::Bad(Refusal {
+    Err(Refusal {
         fault: Fault::NoRule,
         place: i,
     })
 }
 
 // Literal i isn't well typed.
-fn ill_typed(i: usize) -> NodeTold
+fn ill_typed(i: usize) -> Result<u64, Refusal>
     ensures { result ≡ ill_typed i }
 {
-    NodeTold::Bad(Refusal {
+    Err(Refusal {
         fault: Fault::IllTyped,
         place: i,
     })
@@ -55,36 +54,36 @@ fn castable_code(mode: Mode, code: u64) -> bool
 }
 
 // An access through a pointer to a word or an array: the word or element type.
-fn access_told(types: &[u64], mode: Mode, i: usize, code: u64) -> NodeTold
+fn access_told(types: &[u64], mode: Mode, i: usize, code: u64) -> Result<u64, Refusal>
     ensures { result ≡ access_told types.now mode i code }
 {
     if code % 8 / 2 % 2 == 1 {
         if follows_code(mode, code) {
-            return NodeTold::Good(type_code(types, index(code / 8 % 256)));
+            return Ok(type_code(types, index(code / 8 % 256)));
         }
     }
     no_rule(i)
 }
 
 // A field address: the pointer's mode stays.
-fn field_told(structs: &[u64], i: usize, field: u64, code: u64) -> NodeTold
+fn field_told(structs: &[u64], i: usize, field: u64, code: u64) -> Result<u64, Refusal>
     ensures { result ≡ field_told structs.now i field code }
 {
     let of = index(code / 8 % 256);
     if code % 8 / 2 == 2 {
         if field < word(structs, 17 * of) {
-            return NodeTold::Good(2 + code % 2 + 8 * (field_at(structs, of, index(field)) % 256));
+            return Ok(2 + code % 2 + 8 * (field_at(structs, of, index(field)) % 256));
         }
     }
     no_rule(i)
 }
 
 // A cast to the type with this code.
-fn cast_told(mode: Mode, i: usize, code: u64) -> NodeTold
+fn cast_told(mode: Mode, i: usize, code: u64) -> Result<u64, Refusal>
     ensures { result ≡ cast_told mode i code }
 {
     if castable_code(mode, code) {
-        return NodeTold::Good(code);
+        return Ok(code);
     }
     no_rule(i)
 }
@@ -98,11 +97,11 @@ pub fn one_told(
     i: usize,
     operation: Operation,
     x: u64,
-) -> NodeTold
+) -> Result<u64, Refusal>
     ensures { result ≡ one_told structs.now types.now nodes.now mode i operation x }
 {
     match operation {
-        Operation::Unchecked => NodeTold::Good(x),
+        Operation::Unchecked => Ok(x),
         Operation::Cast => cast_told(mode, i, row(nodes, i, 2)),
         Operation::Read => access_told(types, mode, i, x),
         Operation::Field => field_told(structs, i, row(nodes, i, 1), x),
@@ -111,18 +110,14 @@ pub fn one_told(
 }
 
 // "The value part has that type exactly."
-fn assign_told(types: &[u64], mode: Mode, i: usize, x: u64, y: u64) -> NodeTold
+fn assign_told(types: &[u64], mode: Mode, i: usize, x: u64, y: u64) -> Result<u64, Refusal>
     ensures { result ≡ assign_told types.now mode i x y }
 {
-    match access_told(types, mode, i, x) {
-        NodeTold::Good(element) => {
-            if y == element {
-                return NodeTold::Good(element);
-            }
-            no_rule(i)
-        }
-        NodeTold::Bad(refusal) => NodeTold::Bad(refusal),
+    let element = access_told(types, mode, i, x)?;
+    if y == element {
+        return Ok(element);
     }
+    no_rule(i)
 }
 
 // What the left side of a sum may be: an int; under an access also a pointer to an array.
@@ -140,19 +135,27 @@ fn summable(access: bool, x: u64) -> bool
 
 // "Sum: both int, result int." Under an access "where the left is a pointer to an array and the right an int, the access has that array
 // pointer. Any other sum there is judged as a plain sum, at its own number."
-fn sum_told(i: usize, access: bool, x: u64, y: u64) -> NodeTold
+fn sum_told(i: usize, access: bool, x: u64, y: u64) -> Result<u64, Refusal>
     ensures { result ≡ sum_told i access x y }
 {
     if y == 1 {
         if summable(access, x) {
-            return NodeTold::Good(x);
+            return Ok(x);
         }
     }
     no_rule(i)
 }
 
 // What is done with two values, of types x and y: the rule of each act, told whether the node is judged as the pointer of an access.
-fn act_told(types: &[u64], mode: Mode, i: usize, access: bool, act: Act, x: u64, y: u64) -> NodeTold
+fn act_told(
+    types: &[u64],
+    mode: Mode,
+    i: usize,
+    access: bool,
+    act: Act,
+    x: u64,
+    y: u64,
+) -> Result<u64, Refusal>
     ensures { result ≡ act_told types.now mode i access act x y }
 {
     match act {
@@ -170,11 +173,11 @@ pub fn two_told(
     operation: Operation,
     x: u64,
     y: u64,
-) -> NodeTold
+) -> Result<u64, Refusal>
     ensures { result ≡ two_told types.now mode i access operation x y }
 {
     match operation {
-        Operation::Let => NodeTold::Good(y),
+        Operation::Let => Ok(y),
         Operation::Acts(act) => act_told(types, mode, i, access, act, x, y),
         _ => no_rule(i),
     }
@@ -189,7 +192,7 @@ pub fn leaf_told(
     lets: usize,
     i: usize,
     operation: Operation,
-) -> NodeTold
+) -> Result<u64, Refusal>
     ensures { result ≡ leaf_told bound.now structs.now nodes.now bad lets i operation }
 {
     match operation {
@@ -200,30 +203,30 @@ pub fn leaf_told(
     }
 }
 
-fn literal_told(nodes: &[u64], bad: usize, i: usize) -> NodeTold
+fn literal_told(nodes: &[u64], bad: usize, i: usize) -> Result<u64, Refusal>
     ensures { result ≡ literal_told nodes.now bad i }
 {
     if i < bad {
-        return NodeTold::Good(row(nodes, i, 2));
+        return Ok(row(nodes, i, 2));
     }
     ill_typed(i)
 }
 
-fn variable_told(bound: &[u64], lets: usize, i: usize, out: u64) -> NodeTold
+fn variable_told(bound: &[u64], lets: usize, i: usize, out: u64) -> Result<u64, Refusal>
     ensures { result ≡ variable_told bound.now lets i out }
 {
     if out < wide(lets) {
-        return NodeTold::Good(word(bound, lets - 1 - index(out)));
+        return Ok(word(bound, lets - 1 - index(out)));
     }
     no_rule(i)
 }
 
 // "Malloc of a target of more than 0 words."
-fn malloc_told(structs: &[u64], i: usize, code: u64) -> NodeTold
+fn malloc_told(structs: &[u64], i: usize, code: u64) -> Result<u64, Refusal>
     ensures { result ≡ malloc_told structs.now i code }
 {
     if 0 < size_of(structs, code) {
-        return NodeTold::Good(code);
+        return Ok(code);
     }
     no_rule(i)
 }

@@ -56,10 +56,10 @@ unfolding literal_look
 loop-next-init c = record { ends = c.requires; deep = length c.args.queue.now; enough = omega arith; same = refl; long = refl; long_queue = refl }
 
 pub returns-then-next-head : goal.returns-then-next-head
-returns-then-next-head c = done c.loop-next.invariant (rw c.in-On.is at c.look_at.ensures) c.if-next-head.true
+returns-then-next-head c = done c.loop-next.invariant (rw c.in_ok-next.was at c.look_at.ensures) c.if-next-head.true
 
 pub loop-next-smaller : goal.loop-next-smaller
-loop-next-smaller c = let l = still c.loop-next.invariant (rw c.in-On.is at c.look_at.ensures) in omega (arith, l, c.if-next-head.false, c.look_at.auto.queue, c.loop-next.invariant.long_queue)
+loop-next-smaller c = let l = still c.loop-next.invariant (rw c.in_ok-next.was at c.look_at.ensures) in omega (arith, l, c.if-next-head.false, c.look_at.auto.queue, c.loop-next.invariant.long_queue)
 
 pub loop-next-preserved : goal.loop-next-preserved
-loop-next-preserved c = turn c.loop-next.invariant (rw c.in-On.is at c.look_at.ensures) c.if-next-head.false c.look_at.auto.marks c.look_at.auto.queue c.word.ensures c.index-j.ensures c.entry-held.ensures c.entry-kind.ensures
+loop-next-preserved c = turn c.loop-next.invariant (rw c.in_ok-next.was at c.look_at.ensures) c.if-next-head.false c.look_at.auto.marks c.look_at.auto.queue c.word.ensures c.index-j.ensures c.entry-held.ensures c.entry-kind.ensures

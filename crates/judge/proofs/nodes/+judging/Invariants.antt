@@ -2,7 +2,7 @@
 -- The nodes that remain fall: the measure is 2·left for the node judge, and 2·left + 1 for the access judge, which may hand the same
 -- node on.
 use Rattle.std.proofs.Common.{◌+◌, ◌*◌}
-use Rattle.judge.proofs.nodes.+judge_access_judge_node.Given as goal
+use Rattle.judge.proofs.nodes.+judging.Given as goal
 
 abbrev pub decreases-judge_access : goal.decreases-judge_access
 decreases-judge_access l = 2 * l.left + 1
