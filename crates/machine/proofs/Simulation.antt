@@ -1,5 +1,5 @@
 -- The machine runs the definition: what it answers and the heap that it leaves are those of the run by replacement.
-use Rattle.std.proofs.Common.{◌≡◌, ℕ, zero, suc, ◌+◌, ◌-◌, ◌*◌, ◌<◌, ◌≤◌, ◌^◌, Bool, true, false, List, [], length, refl, ap, ◌∙◌, add-zero, zero-add, add-one, arith, ne_eqb, le-leb}
+use Rattle.std.proofs.Common.{◌≡◌, ℕ, zero, suc, ◌+◌, ◌-◌, ◌*◌, ◌<◌, ◌≤◌, ◌^◌, Bool, false, List, [], length, refl, ap, ◌∙◌, add-zero, zero-add, add-one, arith, ne_eqb, le-leb}
 use borrow.Author.Tests.{lt-leb}
 use Rattle.cells.specs.Heap.{Heap, SmallHeap}
 use Rattle.cells.specs.Lent.{lent}

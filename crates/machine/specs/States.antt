@@ -7,7 +7,6 @@ use Rattle.cells.specs.Code.{unpacked}
 use Rattle.calculus.specs.Setting.{cell}
 use Rattle.calculus.specs.Run.{outcome_of}
 use Rattle.calculus.specs.declared.Halt.{Halt}
-use Rattle.calculus.specs.declared.End.{End}
 use Rattle.calculus.specs.declared.End.TheVariants as ends
 use Rattle.calculus.specs.declared.Outcome.{Outcome}
 use Rattle.machine.specs.declared.State.{State}

@@ -1,5 +1,5 @@
 -- The goals of `machine::turns::run` that the check leaves.
-use Rattle.std.proofs.Common.{◌≡◌, ℕ, suc, ◌+◌, ◌-◌, ◌^◌, ◌<◌, ◌≤◌, false, List, length, sym, refl, ◌∙◌, arith}
+use Rattle.std.proofs.Common.{◌≡◌, ℕ, suc, ◌+◌, ◌-◌, ◌<◌, ◌≤◌, false, List, length, sym, refl, ◌∙◌, arith}
 use Rattle.calculus.specs.Run.{outcome_of}
 use Rattle.calculus.specs.declared.End.TheVariants.{Stuck}
 use Rattle.calculus.specs.declared.Outcome.{Outcome}
