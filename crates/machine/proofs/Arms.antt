@@ -1,5 +1,5 @@
 -- The last arm of a match on an operation, for all that have no arm of their own: what the definitions then say.
-use Rattle.std.proofs.Common.{◌≡◌, ℕ, List, refl}
+use Rattle.std.proofs.Common.{◌≡◌, ℕ, Bool, List, refl}
 use Rattle.calculus.specs.declared.Act.{Act}
 use Rattle.calculus.specs.declared.Operation.{Operation}
 use Rattle.calculus.specs.declared.Operation.TheVariants as op
@@ -11,7 +11,7 @@ use Rattle.machine.specs.Yields.{one_yield}
 use Rattle.machine.specs.Nodes.{inside_of, first_part, entered}
 use Rattle.machine.specs.Values.{by_parts}
 
-pub not_block : (o : Operation) (x : ℕ) → (o ≡ op.Unchecked → ⊥) → inside_of o x ≡ x
+pub not_block : (o : Operation) (x : Bool) → (o ≡ op.Unchecked → ⊥) → inside_of o x ≡ x
 not_block op.Literal x n = refl
 not_block op.Variable x n = refl
 not_block op.Let x n = refl

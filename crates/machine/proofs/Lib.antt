@@ -1,7 +1,6 @@
 -- What the machine's functions and its simulation rest on.
 pub mod Memory
 pub mod Arms
-pub mod Slow
 pub mod Fill
 pub mod Stack
 pub mod Redexes

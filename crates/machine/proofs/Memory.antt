@@ -1,7 +1,9 @@
 -- Of the lent tables: a row that is not whole is not there; what was put is found again, and all else is as it was.
-use Rattle.std.proofs.Common.{◌≡◌, ℕ, zero, suc, ◌+◌, ◌*◌, ◌/◌, ◌<◌, ◌≤◌, ltb, leb, List, [], ◌∷◌, length, get_or, set, sym, refl, ◌∙◌, arith, length-set, get_or-set_other, get_or-set_same, le-ltb, lt-ltb}
+use Rattle.std.proofs.Common.{◌≡◌, ℕ, zero, suc, ◌+◌, ◌*◌, ◌/◌, ◌<◌, ◌≤◌, Bool, true, false, ltb, leb, List, [], ◌∷◌, length, get_or, set, sym, refl, ◌∙◌, arith, length-set, get_or-set_other, get_or-set_same, le-ltb, lt-ltb}
 use native.Mathlib.Decide.{dec_lt}
 use lib.ListN.{get_or-eq_default}
+use Rattle.std.specs.Int.{from_bool}
+use Rattle.std.specs.declared.ops.ControlFlow.TheVariants.{Continue, Break}
 use Rattle.choice.specs.Choice.{choose_case}
 use Rattle.cells.specs.Lent.{lent_number, put_word}
 use Rattle.calculus.specs.Operations.{operation_of}
@@ -12,11 +14,9 @@ use Rattle.calculus.specs.declared.Operation.{Operation}
 use Rattle.calculus.specs.declared.Operation.TheVariants.{Literal}
 use Rattle.image.specs.Tabled.{Row}
 use Rattle.machine.specs.declared.State.{State}
-use Rattle.machine.specs.declared.Turn.{Turn}
 use Rattle.machine.specs.declared.Yield.{Yield}
-use Rattle.machine.specs.declared.Turn.TheVariants.{Goes, Ends}
-use Rattle.machine.specs.States.{first_in, more, halt, contracted, leaving, yielding, heap_by, settled}
-use Rattle.machine.specs.Tables.{in_row, node, node_at, framed, kept}
+use Rattle.machine.specs.States.{Turn, over, one_more, first_in, more, halt, contracted, leaving, yielding, written, settled}
+use Rattle.machine.specs.Tables.{in_row, node, node_at, flagged, framed, kept}
 
 -- ---- a row by the one test that finds it
 pub row_here : (t : List ℕ) (i j : ℕ) → i < length t / 4 → in_row t i j ≡ get_or t (4 * i + j) 0
@@ -61,12 +61,12 @@ node_whole {t} {i} n e r =
       r.second_is,
     )
 
-pub framed_here : (t : List ℕ) (i node inside : ℕ) → i < length t / 4
-    → framed t i node inside ≡ set (set (set (set t (4 * i) node) (4 * i + 1) inside) (4 * i + 2) 0) (4 * i + 3) 0
+pub framed_here : (t : List ℕ) (i node : ℕ) (inside : Bool) → i < length t / 4
+    → framed t i node inside ≡ set (set (set (set t (4 * i) node) (4 * i + 1) (from_bool inside)) (4 * i + 2) 0) (4 * i + 3) 0
 unfolding framed
 framed_here t i node inside l = rw (lt-ltb i (length t / 4) l)
 
-pub framed_none : (t : List ℕ) (i node inside : ℕ) → length t / 4 ≤ i → framed t i node inside ≡ t
+pub framed_none : (t : List ℕ) (i node : ℕ) (inside : Bool) → length t / 4 ≤ i → framed t i node inside ≡ t
 unfolding framed
 framed_none t i node inside l = rw (le-ltb i (length t / 4) l)
 
@@ -86,13 +86,13 @@ get_d_within (x ∷ t) zero a b l = refl
 get_d_within (x ∷ t) (suc n) a b l = get_d_within t n a b (omega arith)
 
 -- ---- what was put
-pub length_framed : (t : List ℕ) (i node inside : ℕ) → length (framed t i node inside) ≡ length t
+pub length_framed : (t : List ℕ) (i node : ℕ) (inside : Bool) → length (framed t i node inside) ≡ length t
 unfolding framed
 length_framed t i node inside =
     choose_case
     (λ (t' : List ℕ). length t' ≡ length t)
     (ltb i (length t / 4))
-    (λ _. set (set (set (set t (4 * i) node) (4 * i + 1) inside) (4 * i + 2) 0) (4 * i + 3) 0)
+    (λ _. set (set (set (set t (4 * i) node) (4 * i + 1) (from_bool inside)) (4 * i + 2) 0) (4 * i + 3) 0)
     (λ _. t)
     (simp length-set)
     refl
@@ -115,6 +115,10 @@ pub record Four (t : List ℕ) (i a b c d : ℕ) : Type 0 where
   pub third_is : in_row t i 2 ≡ c
   pub fourth_is : in_row t i 3 ≡ d
 
+pub flag_back : (b : Bool) → flagged (from_bool b) ≡ b
+flag_back true = refl
+flag_back false = refl
+
 -- rows below h are as they were
 pub record SameBelow (h : ℕ) (t t' : List ℕ) : Type 0 where
   pub row_same : (i j : ℕ) → i < h → j < 4 → in_row t' i j ≡ in_row t i j
@@ -136,13 +140,13 @@ below t t' h e same = record { row_same = λ i j l m. rw (e, same (4 * i + j) (o
 abbrev put₁ : List ℕ → (i node : ℕ) → List ℕ
 put₁ t i node = set t (4 * i) node
 
-abbrev put₂ : List ℕ → (i node inside : ℕ) → List ℕ
-put₂ t i node inside = set (put₁ t i node) (4 * i + 1) inside
+abbrev put₂ : List ℕ → (i node : ℕ) → Bool → List ℕ
+put₂ t i node inside = set (put₁ t i node) (4 * i + 1) (from_bool inside)
 
-abbrev put₃ : List ℕ → (i node inside : ℕ) → List ℕ
+abbrev put₃ : List ℕ → (i node : ℕ) → Bool → List ℕ
 put₃ t i node inside = set (put₂ t i node inside) (4 * i + 2) 0
 
-module _ (t : List ℕ) (i node inside : ℕ) where
+module _ (t : List ℕ) (i node : ℕ) (inside : Bool) where
   pub framed_below : SameBelow i t (framed t i node inside)
   framed_below = below t (framed t i node inside) i (length_framed t i node inside) (λ k l. go k l (dec_lt i (length t / 4)))
     where
@@ -151,7 +155,7 @@ module _ (t : List ℕ) (i node inside : ℕ) where
           rw (framed_here t i node inside h)
           (get_or-set_other (put₃ t i node inside) (4 * i + 3) k 0 0 (omega arith)
           ∙ get_or-set_other (put₂ t i node inside) (4 * i + 2) k 0 0 (omega arith)
-          ∙ get_or-set_other (put₁ t i node) (4 * i + 1) k inside 0 (omega arith)
+          ∙ get_or-set_other (put₁ t i node) (4 * i + 1) k (from_bool inside) 0 (omega arith)
           ∙ get_or-set_other t (4 * i) k node 0 (omega arith))
       go k l (no n) = rw (framed_none t i node inside (omega arith))
 
@@ -160,7 +164,7 @@ module _ (t : List ℕ) (i node inside : ℕ) where
       let long = length_framed t i node inside in
       row_here (framed t i node inside) i j (omega arith) ∙ rw (framed_here t i node inside h)
 
-  pub four_framed : i < length t / 4 → Four (framed t i node inside) i node inside 0 0
+  pub four_framed : i < length t / 4 → Four (framed t i node inside) i node (from_bool inside) 0 0
   four_framed h =
       let e : 4 * i + 0 ≡ 4 * i = omega arith in
       record {
@@ -168,12 +172,12 @@ module _ (t : List ℕ) (i node inside : ℕ) where
             ∙ rw e
             (get_or-set_other (put₃ t i node inside) (4 * i + 3) (4 * i) 0 0 (omega arith)
             ∙ get_or-set_other (put₂ t i node inside) (4 * i + 2) (4 * i) 0 0 (omega arith)
-            ∙ get_or-set_other (put₁ t i node) (4 * i + 1) (4 * i) inside 0 (omega arith)
+            ∙ get_or-set_other (put₁ t i node) (4 * i + 1) (4 * i) (from_bool inside) 0 (omega arith)
             ∙ get_or-set_same t (4 * i) node 0 (omega arith));
         second_is = row_put_lem 1 h
             ∙ get_or-set_other (put₃ t i node inside) (4 * i + 3) (4 * i + 1) 0 0 (omega arith)
             ∙ get_or-set_other (put₂ t i node inside) (4 * i + 2) (4 * i + 1) 0 0 (omega arith)
-            ∙ get_or-set_same (put₁ t i node) (4 * i + 1) inside 0 (simp length-set (omega arith));
+            ∙ get_or-set_same (put₁ t i node) (4 * i + 1) (from_bool inside) 0 (simp length-set (omega arith));
         third_is = row_put_lem 2 h
             ∙ get_or-set_other (put₃ t i node inside) (4 * i + 3) (4 * i + 2) 0 0 (omega arith)
             ∙ get_or-set_same (put₂ t i node inside) (4 * i + 2) 0 0 (simp length-set (omega arith));
@@ -258,15 +262,15 @@ module _ (t : List ℕ) (i value code : ℕ) where
       }
 
 -- ---- the heap where a transition ends the run, or leaves it as it is
-heap_same : (t : Turn) (ws : List ℕ) → heap_by t ws ws ≡ ws
-heap_same (Goes s) ws = refl
-heap_same (Ends o) ws = refl
+written_same : (r : Turn) (ws : List ℕ) → leaving r ws ≡ written r ws ws
+written_same (Continue s) ws = refl
+written_same (Break o) ws = refl
 
 pub settled_same : (limit : ℕ) (s : State) (y : Yield) (ws : List ℕ) → leaving (contracted limit s y) ws ≡ settled limit s ws (yielding y ws)
 unfolding settled
-settled_same limit s y ws = rw (heap_same (contracted limit s y) ws)
+settled_same limit s y ws = written_same (contracted limit s y) ws
 
-pub halt_kept : (limit : ℕ) (s : State) (h : Halt) (ws ws' : List ℕ) → heap_by (halt limit s h) ws ws' ≡ ws
+pub halt_kept : (limit : ℕ) (s : State) (h : Halt) (ws ws' : List ℕ) → written (halt limit s h) ws ws' ≡ leaving (halt limit s h) ws
 halt_kept limit s h ws ws' =
-    choose_case (λ (t : Turn). heap_by t ws ws' ≡ ws) (leb limit s.steps) (λ _. more s)
-    (λ _. Ends (outcome_of (Halted h) (s.steps + 1) (first_in s))) refl refl
+    choose_case (λ (r : Turn). written r ws ws' ≡ leaving r ws) (leb limit s.steps) (λ _. more s)
+    (λ _. over (outcome_of (Halted h) (one_more s.steps) (first_in s))) refl refl

@@ -1,8 +1,11 @@
 -- The frames and the bound values as the machine leaves them: what context they hold, how many transitions it still takes, and that a frame
 -- or a value that is put above keeps all below.
-use Rattle.std.proofs.Common.{◌≡◌, ℕ, zero, suc, ◌+◌, ◌-◌, ◌*◌, ◌/◌, ◌<◌, ◌≤◌, List, [], ◌∷◌, length, get_or, arith}
-use Rattle.cells.specs.Code.{packed, mode_number, Small}
+use Rattle.std.proofs.Common.{◌≡◌, ℕ, zero, suc, ◌+◌, ◌-◌, ◌*◌, ◌/◌, ◌<◌, ◌≤◌, Bool, true, false, List, [], ◌∷◌, length, get_or, arith}
+use Rattle.std.specs.Int.{from_bool}
+use Rattle.cells.specs.Code.{packed, Small}
 use Rattle.cells.specs.Lent.{put_word}
+use Rattle.cells.specs.declared.Mode.{Mode}
+use Rattle.cells.specs.declared.Mode.TheVariants.{Checked, Unchecked}
 use Rattle.cells.specs.declared.Kind.TheVariants.{Int}
 use Rattle.cells.specs.declared.Cell.{Cell}
 use Rattle.calculus.specs.Setting.{cell}
@@ -40,6 +43,11 @@ few_ticks (bind a b) = omega (arith, few_ticks a, few_ticks b)
 few_ticks (one o e) = omega (arith, few_ticks e)
 few_ticks (two o a b) = omega (arith, few_ticks a, few_ticks b)
 
+-- whether code of a mode lies inside an unchecked block
+abbrev pub in_block : Mode → Bool
+in_block Checked = false
+in_block Unchecked = true
+
 -- a part that is entered later: it stands in the table, inside so many lets, and there is room for it above `above` frames
 pub record Waits (t : List ℕ) (R j lets above : ℕ) (e : Expr) : Type 0 where
   pub spans : Spans t j e
@@ -52,19 +60,19 @@ pub record Waits (t : List ℕ) (R j lets above : ℕ) (e : Expr) : Type 0 where
 pub data Stack (t : List ℕ) (R : ℕ) (frames : List ℕ) : (height : ℕ) → List Cell → List Hole → (left : ℕ) → Type 0 where
   bottom : Stack t R frames 0 [] [] 0
   on_one : {h l i : ℕ} {ρ : List Cell} {K : List Hole} {o : One} → Stack t R frames h ρ K l
-      → Four frames h i (mode_number (under K)) 0 0 → Row t i (one_operation o) (one_argument o) (one_kind o) 0 → SmallOne o
+      → Four frames h i (from_bool (in_block (under K))) 0 0 → Row t i (one_operation o) (one_argument o) (one_kind o) 0 → SmallOne o
       → Stack t R frames (suc h) ρ (in_one o ∷ K) (l + 1)
   on_bound : {h l i j : ℕ} {ρ : List Cell} {K : List Hole} {b : Expr} → Stack t R frames h ρ K l
-      → Four frames h i (mode_number (under K)) 0 0 → Row t i Let 0 0 j → Waits t R j (suc (length ρ)) (suc h) b
+      → Four frames h i (from_bool (in_block (under K))) 0 0 → Row t i Let 0 0 j → Waits t R j (suc (length ρ)) (suc h) b
       → Stack t R frames (suc h) ρ (in_bound (fill 1 ρ b) ∷ K) (l + 2 + ticks b)
   on_left : {h l i j : ℕ} {ρ : List Cell} {K : List Hole} {o : Act} {b : Expr} → Stack t R frames h ρ K l
-      → Four frames h i (mode_number (under K)) 0 0 → Row t i (Acts o) 0 0 j → Waits t R j (length ρ) (suc h) b
+      → Four frames h i (from_bool (in_block (under K))) 0 0 → Row t i (Acts o) 0 0 j → Waits t R j (length ρ) (suc h) b
       → Stack t R frames (suc h) ρ (in_left o (fill 0 ρ b) ∷ K) (l + 2 + ticks b)
   on_right : {h l i j : ℕ} {ρ : List Cell} {K : List Hole} {o : Act} {c : Cell} → Stack t R frames h ρ K l
-      → Four frames h i (mode_number (under K)) c.value (packed c.kind) → Row t i (Acts o) 0 0 j → Small c.kind
+      → Four frames h i (from_bool (in_block (under K))) c.value (packed c.kind) → Row t i (Acts o) 0 0 j → Small c.kind
       → Stack t R frames (suc h) ρ (in_right o c ∷ K) (l + 1)
   on_body : {h l i j : ℕ} {ρ : List Cell} {K : List Hole} {c : Cell} → Stack t R frames h ρ K l
-      → Four frames h i (mode_number (under K)) c.value (packed c.kind) → Row t i Let 0 0 j
+      → Four frames h i (from_bool (in_block (under K))) c.value (packed c.kind) → Row t i Let 0 0 j
       → Stack t R frames (suc h) (c ∷ ρ) K (l + 1)
 
 -- the values stand in the lent list as words in a heap, the outermost at address 1

@@ -1,5 +1,5 @@
 -- malloc over the lent numbers: whether there is room, and the words that then become zeros.
-use Rattle.std.specs.Prelude.{ℕ, zero, suc, ◌+◌, ◌/◌, ◌%◌, ◌^◌, List, ◌==◌, nat_le, slice_index_or, Option, Some, None}
+use Rattle.std.specs.Prelude.{ℕ, zero, suc, ◌/◌, ◌%◌, List, ◌==◌, nat_le, slice_index_or, Option, Some, None}
 use Rattle.choice.specs.Choice.{choose}
 use Rattle.cells.specs.Code.{number_in}
 use Rattle.cells.specs.Lent.{put_word, lowest_run}
@@ -7,8 +7,7 @@ use Rattle.calculus.specs.declared.Halt.TheVariants as halts
 use Rattle.machine.specs.declared.State.{State}
 use Rattle.machine.specs.declared.Hint.{Hint}
 use Rattle.machine.specs.declared.Terms.{Terms}
-use Rattle.machine.specs.declared.Turn.TheVariants.{Goes}
-use Rattle.machine.specs.States.{Leaving, hint, leaving, more, stuck, halt, stepped, focused, with_hint}
+use Rattle.machine.specs.States.{Leaving, hint, leaving, written, stuck, halt, step_within, focused, with_hint, one_more}
 use Rattle.machine.specs.Yields.{field_count, field_type}
 
 -- how many words the target of the pointer with that code covers, and the number of the i-th one's type
@@ -26,7 +25,7 @@ type_in structs code i = choose (code % 8 / 2 == 2) (λ _. field_type structs (n
 unfoldable pub zeros : (structs types : List ℕ) (code k a i : ℕ) → List ℕ → List ℕ
 zeros structs types code zero a i ws = ws
 zeros structs types code (suc k) a i ws =
-    zeros structs types code k ((a + 1) % 2 ^ 64) ((i + 1) % 2 ^ 64) (put_word ws a 0 (slice_index_or types (type_in structs code i) 1))
+    zeros structs types code k (one_more a) (one_more i) (put_word ws a 0 (slice_index_or types (type_in structs code i) 1))
 
 -- where to start to look: words are never freed, so no run of that size starts lower; before the first malloc that is the lowest address
 abbrev pub start_at : Hint → (size low : ℕ) → ℕ
@@ -38,8 +37,7 @@ first_hint T = hint 0 T.low
 -- the run found is taken, a step later, and remembered
 unfoldable pub room_taken : (structs types : List ℕ) (limit : ℕ) → List ℕ → State → (code size a : ℕ) → Leaving
 room_taken structs types limit ws s code size a =
-    choose (nat_le limit s.steps) (λ _. leaving (more s) ws)
-    (λ _. leaving (Goes (stepped (with_hint (focused s a code) size a))) (zeros structs types code size a 0 ws))
+    written (step_within limit (with_hint (focused s a code) size a)) ws (zeros structs types code size a 0 ws)
 
 abbrev pub room_found : Option ℕ → (structs types : List ℕ) (limit : ℕ) → List ℕ → State → (code size : ℕ) → Leaving
 room_found (Some a) structs types limit ws s code size = room_taken structs types limit ws s code size a

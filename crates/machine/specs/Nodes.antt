@@ -1,5 +1,5 @@
 -- The transition at a node: a literal or a variable is a value, malloc contracts, and any other node waits in a frame for its first part.
-use Rattle.std.specs.Prelude.{ℕ, ◌+◌, ◌-◌, ◌/◌, List, length, nat_le}
+use Rattle.std.specs.Prelude.{ℕ, ◌+◌, ◌-◌, ◌/◌, Bool, true, List, length, nat_le}
 use Rattle.choice.specs.Choice.{choose}
 use Rattle.cells.specs.Lent.{lent_number}
 use Rattle.calculus.specs.declared.Operation.{Operation}
@@ -7,15 +7,13 @@ use Rattle.calculus.specs.declared.Operation.TheVariants as op
 use Rattle.machine.specs.declared.Node.{Node}
 use Rattle.machine.specs.declared.State.{State}
 use Rattle.machine.specs.declared.Terms.{Terms}
-use Rattle.machine.specs.declared.Turn.{Turn}
-use Rattle.machine.specs.declared.Turn.TheVariants.{Goes}
-use Rattle.machine.specs.States.{Leaving, Moved, leaving, moved, on_heap, on_frames, stuck, focused, at_height}
+use Rattle.machine.specs.States.{Turn, goes, Leaving, Moved, leaving, moved, on_heap, on_frames, stuck, focused, at_height}
 use Rattle.machine.specs.Tables.{node_at, framed}
 use Rattle.machine.specs.Malloc.{room_at}
 
 -- inside an unchecked block, or as before
-abbrev pub inside_of : Operation → (inside : ℕ) → ℕ
-inside_of op.Unchecked inside = 1
+abbrev pub inside_of : Operation → (inside : Bool) → Bool
+inside_of op.Unchecked inside = true
 inside_of op.Literal inside = inside
 inside_of op.Variable inside = inside
 inside_of op.Let inside = inside
@@ -30,19 +28,19 @@ inside_of op.Unknown inside = inside
 unfoldable pub variable_at : List ℕ → State → (out : ℕ) → Turn
 variable_at bound s out =
     choose (nat_le s.lets out) (λ _. stuck s)
-    (λ _. Goes (focused s (lent_number bound (s.lets - out) 0) (lent_number bound (s.lets - out) 1)))
+    (λ _. goes (focused s (lent_number bound (s.lets - out) 0) (lent_number bound (s.lets - out) 1)))
 
 -- the node waits in a frame for its first part, which is the next node
 unfoldable pub first_part : List ℕ → State → Operation → Leaving
 first_part frames s o =
     choose (nat_le (length frames / 4) s.height) (λ _. leaving (stuck s) frames)
-    (λ _. leaving (Goes (at_height (focused s (s.at + 1) 0) (s.height + 1) (inside_of o s.inside)))
+    (λ _. leaving (goes (at_height (focused s (s.at + 1) 0) (s.height + 1) (inside_of o s.inside)))
     (framed frames s.height s.at s.inside))
 
 -- the node in focus does that; the argument and the kind are its own
 module _ (structs types : List ℕ) (T : Terms) (ws frames bound : List ℕ) (s : State) where
   unfoldable pub entered : Operation → (argument kind : ℕ) → Moved
-  entered op.Literal argument kind = moved (Goes (focused s argument kind)) ws frames bound
+  entered op.Literal argument kind = moved (goes (focused s argument kind)) ws frames bound
   entered op.Variable argument kind = moved (variable_at bound s argument) ws frames bound
   entered op.Malloc argument kind = on_heap frames bound (room_at structs types T ws s kind)
   entered op.Let argument kind = on_frames ws bound (first_part frames s op.Let)

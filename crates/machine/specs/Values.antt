@@ -1,5 +1,5 @@
 -- The transition at a value: it is the whole expression's, or it is handed back to the node in the topmost frame.
-use Rattle.std.specs.Prelude.{ℕ, ◌+◌, ◌-◌, ◌/◌, List, length, ◌==◌, nat_le}
+use Rattle.std.specs.Prelude.{ℕ, ◌+◌, ◌-◌, ◌/◌, Bool, List, length, ◌==◌, nat_le}
 use Rattle.choice.specs.Choice.{choose}
 use Rattle.cells.specs.Lent.{put_word}
 use Rattle.calculus.specs.declared.Act.{Act}
@@ -8,10 +8,9 @@ use Rattle.calculus.specs.declared.Operation.TheVariants as op
 use Rattle.machine.specs.declared.Node.{Node}
 use Rattle.machine.specs.declared.State.{State}
 use Rattle.machine.specs.declared.Terms.{Terms}
-use Rattle.machine.specs.declared.Turn.TheVariants.{Goes}
-use Rattle.machine.specs.States.{Leaving, Stacked, Moved, leaving, stacked, moved, on_heap, on_stack, beside, more}
-use Rattle.machine.specs.States.{stuck, done, contracted, settled, stepped, focused, at_height, popped, with_lets}
-use Rattle.machine.specs.Tables.{in_row, node_at, kept}
+use Rattle.machine.specs.States.{goes, over, turned, Leaving, Stacked, Moved, leaving, stacked, moved, on_heap, on_stack, beside}
+use Rattle.machine.specs.States.{stuck, done, contracted, settled, step_within, focused, at_height, popped, with_lets}
+use Rattle.machine.specs.Tables.{in_row, node_at, flagged, kept}
 use Rattle.machine.specs.Yields.{one_yield, acted}
 
 -- by the parts that an operation has: a let's two, two values to act on, or any other
@@ -29,14 +28,15 @@ by_parts op.Unknown binds acts other = other tt
 
 -- the value of a node's first part is kept in its frame, and its second part is entered
 unfoldable pub second_part : List ℕ → State → (part : ℕ) → Leaving
-second_part frames s part = leaving (Goes (focused s part 0)) (kept frames (s.height - 1) s.at s.code)
+second_part frames s part = leaving (goes (focused s part 0)) (kept frames (s.height - 1) s.at s.code)
 
 -- the value of a let's bound part is bound, a step, and its body is entered
 unfoldable pub binding : (limit : ℕ) (frames bound : List ℕ) → State → (body : ℕ) → Stacked
 binding limit frames bound s body =
-    choose (nat_le (length bound / 2) s.lets) (λ _. stacked (stuck s) frames bound) λ _.
-    choose (nat_le limit s.steps) (λ _. stacked (more s) frames bound)
-    (λ _. beside (put_word bound (s.lets + 1) s.at s.code) (second_part frames (with_lets (stepped s) (s.lets + 1)) body))
+    choose (nat_le (length bound / 2) s.lets) (λ _. stacked (stuck s) frames bound)
+    (λ _. turned (step_within limit s)
+    (λ t. beside (put_word bound (s.lets + 1) s.at s.code) (second_part frames (with_lets t (s.lets + 1)) body))
+    (λ o. stacked (over o) frames bound))
 
 -- the value in focus is that of the node's first part
 unfoldable pub after_first : (structs : List ℕ) → Terms → (ws frames bound : List ℕ) → State → Node → Stacked
@@ -47,11 +47,11 @@ after_first structs T ws frames bound s n =
 -- it is that of the second part, or of a let's body; v is the first part's, with that code of its kind
 unfoldable pub after_second : Terms → List ℕ → State → Operation → (v kind : ℕ) → Leaving
 after_second T ws s o v kind =
-    by_parts o (λ _. leaving (Goes (with_lets s (s.lets - 1))) ws) (λ a. settled T.limit s ws (acted T.words ws s a v kind))
+    by_parts o (λ _. leaving (goes (with_lets s (s.lets - 1))) ws) (λ a. settled T.limit s ws (acted T.words ws s a v kind))
     (λ _. leaving (stuck s) ws)
 
 -- the node in the topmost frame goes on with the value in focus
-unfoldable pub resumed : (structs : List ℕ) → Terms → (ws frames bound : List ℕ) → State → Node → (inside v kind : ℕ) → Moved
+unfoldable pub resumed : (structs : List ℕ) → Terms → (ws frames bound : List ℕ) → State → Node → Bool → (v kind : ℕ) → Moved
 resumed structs T ws frames bound s n inside v kind =
     choose (kind == 0)
     (λ _. on_stack ws (after_first structs T ws frames bound (at_height s s.height inside) n))
@@ -60,6 +60,6 @@ resumed structs T ws frames bound s n inside v kind =
 unfoldable pub handing : (nodes structs : List ℕ) → Terms → (ws frames bound : List ℕ) → State → Moved
 handing nodes structs T ws frames bound s =
     choose (s.height == 0) (λ _. moved (done s) ws frames bound)
-    (λ _. resumed structs T ws frames bound s (node_at nodes (in_row frames (s.height - 1) 0)) (in_row frames (s.height - 1) 1)
+    (λ _. resumed structs T ws frames bound s (node_at nodes (in_row frames (s.height - 1) 0)) (flagged (in_row frames (s.height - 1) 1))
     (in_row frames (s.height - 1) 2)
     (in_row frames (s.height - 1) 3))

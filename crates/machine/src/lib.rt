@@ -5,6 +5,7 @@
 #![tactic(auto)]
 
 use calculus::{Halt, Operation, Outcome};
+use std::ops::ControlFlow;
 
 // On what terms a script is run: how many words the heap has, the lowest and the highest address that malloc may use, and how many steps
 // it may take.
@@ -18,14 +19,14 @@ pub struct Terms {
 
 // Where the machine stands. In focus is the node of number `at` where `code` is 0, else the value `at` that a part gave, with the code
 // of its kind (no kind has the code 0). Then how many frames and bound values there are, whether the focus lies inside an unchecked
-// block (0 if not), the steps taken, the number of the first unchecked one, 0 if there was none, and where malloc may start to look.
+// block, the steps taken, the number of the first unchecked one, 0 if there was none, and where malloc may start to look.
 #[derive(Clone, Copy)]
 pub struct State {
     pub at: u64,
     pub code: u64,
     pub height: usize,
     pub lets: usize,
-    pub inside: u64,
+    pub inside: bool,
     pub steps: u64,
     pub first: u64,
     pub hint: Hint,
@@ -56,11 +57,7 @@ pub enum Yield {
 }
 
 // What a transition comes to: the machine goes on, or the run ends.
-#[derive(Clone, Copy)]
-pub enum Turn {
-    Goes(State),
-    Ends(Outcome),
-}
+pub type Turn = ControlFlow<Outcome, State>;
 
 mod malloc;
 mod nodes;

@@ -1,15 +1,16 @@
 // malloc: whether there is room, and the words that then become zeros.
-ghost use Rattle.std.specs.Prelude.{◌≡◌, ◌^◌, ◌<◌, slice_index_or};
+ghost use Rattle.std.specs.Prelude.{◌≡◌, slice_index_or};
 ghost use Rattle.machine.specs.Malloc.{size_in, type_in, start_at, room_taken, room_at, zeros};
 ghost use Rattle.machine.specs.States.{leaving};
 
-use crate::states::{focused, halt, more, stepped, stuck, with_hint};
 use crate::yields::{field_count, field_type, number_of};
 use crate::{Hint, State, Terms, Turn};
 use calculus::Halt;
 use cells::{lowest_run, put_word};
+use std::ops::ControlFlow;
 
 // Room for the target of a checked pointer: the lowest run of words that is long enough.
+#[tactic(auto, unfolding(crate::specs::Malloc::room_for))]
 pub fn malloc(
     heap: &mut [u64],
     structs: &[u64],
@@ -18,17 +19,15 @@ pub fn malloc(
     s: State,
     code: u64,
 ) -> Turn
-    requires { s.steps < 2 ^ 63 }
     ensures { leaving result heap.new ≡ room_at structs.now types.now terms heap.old s code }
 {
     let size = size_of(structs, code);
     if size == 0 {
-        return stuck(s);
+        return s.stuck();
     }
-    let hint = s.hint;
-    match lowest_run(heap, size, start(hint, size, terms.low), terms.high) {
+    match lowest_run(heap, size, start(s.hint, size, terms.low), terms.high) {
         Some(address) => take(heap, structs, types, terms.limit, s, code, size, address),
-        None => halt(s, terms.limit, Halt::Room),
+        None => s.halt(terms.limit, Halt::Room),
     }
 }
 
@@ -40,6 +39,7 @@ fn start(hint: Hint, size: usize, low: usize) -> usize
 }
 
 // The run found is taken, a step later: no run of that size starts lower from now on.
+#[tactic(auto, unfolding(crate::specs::Malloc::room_taken))]
 fn take(
     heap: &mut [u64],
     structs: &[u64],
@@ -50,15 +50,18 @@ fn take(
     size: usize,
     address: usize,
 ) -> Turn
-    requires { s.steps < 2 ^ 63 }
     ensures { leaving result heap.new ≡ room_taken structs.now types.now limit heap.old s code size address }
 {
-    if limit <= s.steps {
-        return more(s);
-    }
+    let taken = State {
+        hint: Hint {
+            size,
+            from: address,
+        },
+        ..s.focused(address as u64, code)
+    };
+    let next = taken.step_within(limit)?;
     zero(heap, structs, types, code, size, address);
-    let taken = with_hint(focused(s, address as u64, code), size, address);
-    Turn::Goes(stepped(taken))
+    ControlFlow::Continue(next)
 }
 
 // The words that a pointer's target covers become zeros of the target's types.

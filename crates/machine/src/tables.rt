@@ -7,6 +7,7 @@ use crate::Node;
 use calculus::Operation;
 
 // Number j of row i, 0 where there is no such row.
+#[tactic(auto, unfolding(crate::specs::Tables::in_row))]
 pub fn row(table: &[u64], i: usize, j: usize) -> u64
     requires { j < 4 }
     ensures { result ≡ in_row table.now i j }
@@ -19,6 +20,7 @@ pub fn row(table: &[u64], i: usize, j: usize) -> u64
 }
 
 // Node i, its code decoded; a row that is not there has the numbers 0.
+#[tactic(auto, unfolding(crate::specs::Tables::node_at))]
 pub fn node_at(nodes: &[u64], i: usize) -> Node
     ensures { result ≡ node_at nodes.now i }
 {
@@ -32,18 +34,20 @@ pub fn node_at(nodes: &[u64], i: usize) -> Node
 }
 
 // A node waits for its first part in frame i from now on; where there is no such row nothing changes.
-pub fn put_frame(frames: &mut [u64], i: usize, node: u64, inside: u64)
+#[tactic(auto, unfolding(crate::specs::Tables::framed))]
+pub fn put_frame(frames: &mut [u64], i: usize, node: u64, inside: bool)
     ensures { frames.new ≡ framed frames.old i node inside }
 {
     if i < frames.len() / 4 {
         frames[4 * i] = node;
-        frames[4 * i + 1] = inside;
+        frames[4 * i + 1] = u64::from(inside);
         frames[4 * i + 2] = 0;
         frames[4 * i + 3] = 0;
     }
 }
 
 // Frame i keeps the value of its node's first part from now on.
+#[tactic(auto, unfolding(crate::specs::Tables::kept))]
 pub fn keep(frames: &mut [u64], i: usize, value: u64, code: u64)
     ensures { frames.new ≡ kept frames.old i value code }
 {

@@ -1,5 +1,5 @@
 // The run: transitions are made until one ends it.
-ghost use Rattle.std.specs.Prelude.{◌≡◌, ◌^◌, ◌<◌};
+ghost use Rattle.std.specs.Prelude.{◌≡◌};
 ghost use Rattle.machine.specs.Turns.{transition};
 ghost use Rattle.machine.specs.States.{moved};
 ghost use Rattle.machine.specs.Entry.{Stepped};
@@ -8,6 +8,7 @@ use crate::nodes::enter;
 use crate::values::resume;
 use crate::{Hint, State, Terms, Turn};
 use calculus::{End, Outcome};
+use std::ops::ControlFlow;
 
 // Runs the expression of the node table over the heap, on these terms.
 pub fn run(
@@ -26,7 +27,7 @@ pub fn run(
         code: 0,
         height: 0,
         lets: 0,
-        inside: 0,
+        inside: false,
         steps: 0,
         first: 0,
         hint: Hint {
@@ -35,26 +36,17 @@ pub fn run(
         },
     };
     // Each node is entered once, and each of its parts hands back one value: a transition for each number of the table is enough.
-    let mut ticks = nodes.len();
-    while ticks > 0 {
+    for _ in 0..nodes.len() {
         match turn(heap, frames, bound, nodes, structs, types, terms, s) {
-            Turn::Goes(next) => {
-                s = next;
-            }
-            Turn::Ends(outcome) => {
-                return outcome;
-            }
+            ControlFlow::Continue(next) => s = next,
+            ControlFlow::Break(outcome) => return outcome,
         }
-        ticks -= 1;
     }
-    Outcome {
-        end: End::Stuck,
-        steps: s.steps,
-        first: s.first,
-    }
+    s.outcome(End::Stuck)
 }
 
 // One transition: a node is in focus, or a value.
+#[tactic(auto, unfolding(crate::specs::Turns::transition))]
 fn turn(
     heap: &mut [u64],
     frames: &mut [u64],
@@ -65,7 +57,6 @@ fn turn(
     terms: Terms,
     s: State,
 ) -> Turn
-    requires { s.steps < 2 ^ 63 }
     ensures { moved result heap.new frames.new bound.new ≡ transition nodes.now structs.now types.now terms heap.old frames.old bound.old s }
 {
     if s.code == 0 {

@@ -7,17 +7,17 @@ ghost use Rattle.machine.specs.Yields.{one_yield, read_yield, held_yield, acted,
 ghost use Rattle.machine.specs.Yields.{sum_yield, field_yield, struct_field, field_count, field_type};
 ghost use Rattle.machine.specs.States.{leaving, settled};
 
-use crate::states::{contracted, halt, more, stepped, stuck};
 use crate::{Node, State, Terms, Turn, Yield};
 use calculus::{Act, Halt, Operation};
 use cells::{Cell, Kind, cell_at, store, word};
+use std::ops::ControlFlow;
 
 // A node with one part, whose value is in focus.
+#[tactic(auto, using(crate::proofs::Arms::not_single), unfolding(crate::specs::Yields::one_yield))]
 pub fn one(heap: &[u64], structs: &[u64], words: usize, s: State, node: Node) -> Yield
     ensures { result ≡ one_yield structs.now words heap.now s.at s.code node.operation node.argument node.kind }
 {
-    let operation = node.operation;
-    match operation {
+    match node.operation {
         Operation::Unchecked => Yield::Gives {
             value: s.at,
             code: s.code,
@@ -33,13 +33,13 @@ pub fn one(heap: &[u64], structs: &[u64], words: usize, s: State, node: Node) ->
 }
 
 // What is done with two values: that of the first part is told, that of the second is in focus.
+#[tactic(auto, using(crate::proofs::Memory::settled_same))]
 pub fn act(heap: &mut [u64], terms: Terms, s: State, o: Act, value: u64, code: u64) -> Turn
-    requires { s.steps < 2 ^ 63 }
     ensures { leaving result heap.new ≡ settled terms.limit s heap.old (acted terms.words heap.old s o value code) }
 {
     match o {
         Act::Assign => assign(heap, terms, s, value, code),
-        Act::Sum => contracted(s, terms.limit, sum(value, code, s.at)),
+        Act::Sum => s.contracted(terms.limit, sum(value, code, s.at)),
     }
 }
 
@@ -76,25 +76,23 @@ fn held(heap: &[u64], words: usize, address: usize) -> Yield
 }
 
 // Assign the value in focus at a pointer: where a read gives a value.
+#[tactic(auto, using(crate::proofs::Memory::settled_same), unfolding(crate::specs::Yields::assigned))]
 fn assign(heap: &mut [u64], terms: Terms, s: State, value: u64, code: u64) -> Turn
-    requires { s.steps < 2 ^ 63 }
     ensures { leaving result heap.new ≡ settled terms.limit s heap.old (assigned terms.words heap.old s value code) }
 {
     match read(heap, terms.words, value, code) {
         Yield::Gives { value: _, code: _ } => write(heap, terms.limit, s, value as usize),
-        Yield::Halts(why) => halt(s, terms.limit, why),
-        Yield::Blocked => stuck(s),
+        Yield::Halts(why) => s.halt(terms.limit, why),
+        Yield::Blocked => s.stuck(),
     }
 }
 
 // The word at the address holds the value in focus, a step later.
+#[tactic(auto, unfolding(crate::specs::States::settled))]
 fn write(heap: &mut [u64], limit: u64, s: State, address: usize) -> Turn
-    requires { s.steps < 2 ^ 63 }
     ensures { leaving result heap.new ≡ settled limit s heap.old (overwritten heap.old s address) }
 {
-    if limit <= s.steps {
-        return more(s);
-    }
+    let next = s.step_within(limit)?;
     store(
         heap,
         address,
@@ -103,7 +101,7 @@ fn write(heap: &mut [u64], limit: u64, s: State, address: usize) -> Turn
             kind: Kind::from(s.code),
         },
     );
-    Turn::Goes(stepped(s))
+    ControlFlow::Continue(next)
 }
 
 // The sum of a value and a number: the count of a checked array pointer falls by the number, not below 0.

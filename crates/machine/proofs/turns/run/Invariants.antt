@@ -1,6 +1,6 @@
 -- `machine::turns::run` makes the transitions of `driven`. The loop's invariant is `Driving`: what is left to be done gives what the
--- whole gives, and there are fewer steps than transitions. The measure is how many transitions are left. Assumes nothing.
-use Rattle.std.proofs.Common.{◌≡◌, ℕ, ◌+◌, ◌^◌, ◌<◌, ◌≤◌, List, length}
+-- whole gives. Assumes nothing.
+use Rattle.std.proofs.Common.{◌≡◌, ℕ, ◌-◌, List, length}
 use Rattle.machine.specs.declared.State.{State}
 use Rattle.machine.specs.declared.Terms.{Terms}
 use Rattle.machine.specs.Turns.{drive, driven}
@@ -11,11 +11,7 @@ pub record Driving (heap₀ frames₀ bound₀ nodes structs types : List ℕ) (
   pub heap_long : length heap ≡ length heap₀
   pub frames_long : length frames ≡ length frames₀
   pub bound_long : length bound ≡ length bound₀
-  pub few : s.steps + ticks ≤ length nodes
-  pub short : length nodes < 2 ^ 62
 
-abbrev pub invariant-loop-ticks : goal.invariant-loop-ticks
-invariant-loop-ticks l = Driving l.initial.heap l.initial.frames l.initial.bound l.nodes l.structs l.types l.terms l.heap l.frames l.bound l.s l.ticks
-
-abbrev pub decreases-loop-ticks : goal.decreases-loop-ticks
-decreases-loop-ticks l = l.ticks
+abbrev pub invariant-loop : goal.invariant-loop
+invariant-loop l =
+    Driving l.initial.heap l.initial.frames l.initial.bound l.nodes l.structs l.types l.terms l.heap l.frames l.bound l.s (length l.nodes - l.counter)
