@@ -1,4 +1,5 @@
 -- How the contracts of loading, judging, placing and running join: each law is what one function of the library needs, over plain lists.
+use Rattle.std.specs.Prelude.{Result, Ok, Err}
 use Prim.Native.Nat.{ℕ, ◌*◌, ◌/◌, ◌≤◌, min}
 use mathlib.Core.Path.{◌≡◌, refl, sym, ap, subst, ◌∙◌}
 use mathlib.Core.List.{List}
@@ -21,8 +22,6 @@ use Rattle.image.specs.declared.Loading.TheVariants as loading
 use Rattle.image.proofs.Gives.{given_by}
 use Rattle.image.proofs.LoadLaws.{ContentRead, content_gives, load_result, load_held, held_all}
 use Rattle.judge.specs.Script.{ScriptJudged, as_verdict}
-use Rattle.judge.specs.declared.Judged.{Judged}
-use Rattle.judge.specs.declared.Judged.TheVariants as verdict
 use Rattle.machine.specs.Entry.{Stepped}
 use Rattle.codlinbell.specs.Answered.{Answered, answering, answered, ran, judged_then, read_then, content_verdict, content_run, announced, announced_of}
 use Rattle.codlinbell.specs.Placing.{cells_stored}
@@ -37,7 +36,7 @@ module _ {image ws : List ℕ} {words : ℕ} {c : Content} {structs types cells 
   content_read = given_by (content_gives words image) p.reads
 
   -- The judge's answer is the definition's verdict.
-  pub verdict_told : {j : Judged} {marks' queue' bound' : List ℕ} → ScriptJudged structs types cells table marks queue bound j marks' queue' bound'
+  pub verdict_told : {j : Result Kind Refusal} {marks' queue' bound' : List ℕ} → ScriptJudged structs types cells table marks queue bound j marks' queue' bound'
       → content_verdict ws c ≡ as_verdict j
   verdict_told a =
       rw (← p.words_are)
@@ -70,13 +69,13 @@ module _ {image ws : List ℕ} {words : ℕ} {c : Content} {structs types cells 
       }
 
   -- An accepted content is answered by its run, another by its refusal.
-  pub accepted_told : (limit : ℕ) {j : Judged} {κ : Kind} {marks' queue' bound' : List ℕ} {a : Answered}
-      → ScriptJudged structs types cells table marks queue bound j marks' queue' bound' → j ≡ verdict.Good κ → a ≡ ran ws (content_run ws limit c)
+  pub accepted_told : (limit : ℕ) {j : Result Kind Refusal} {κ : Kind} {marks' queue' bound' : List ℕ} {a : Answered}
+      → ScriptJudged structs types cells table marks queue bound j marks' queue' bound' → j ≡ Ok κ → a ≡ ran ws (content_run ws limit c)
       → a ≡ judged_then ws (content_verdict ws c) (λ _. content_run ws limit c)
   accepted_told limit a e q = q ∙ sym (ap (λ (v : Verdict). judged_then ws v (λ _. content_run ws limit c)) (verdict_told a ∙ ap as_verdict e))
 
-  pub refused_told : (limit : ℕ) {j : Judged} {q : Refusal} {marks' queue' bound' : List ℕ}
-      → ScriptJudged structs types cells table marks queue bound j marks' queue' bound' → j ≡ verdict.Bad q
+  pub refused_told : (limit : ℕ) {j : Result Kind Refusal} {q : Refusal} {marks' queue' bound' : List ℕ}
+      → ScriptJudged structs types cells table marks queue bound j marks' queue' bound' → j ≡ Err q
       → answering (Refused q) ws ≡ judged_then ws (content_verdict ws c) (λ _. content_run ws limit c)
   refused_told limit a e = sym (ap (λ (v : Verdict). judged_then ws v (λ _. content_run ws limit c)) (verdict_told a ∙ ap as_verdict e))
 
@@ -187,7 +186,7 @@ unfolding announced
 verdict_read words image e q = q ∙ sym (ap (announced_of words) e)
 
 -- So the judge's answer over the tables that loading left is the image's verdict.
-pub judged_read : {words : ℕ} {image : List ℕ} {n : Sizes} {structs types cells table marks queue bound marks' queue' bound' : List ℕ} {j : Judged}
+pub judged_read : {words : ℕ} {image : List ℕ} {n : Sizes} {structs types cells table marks queue bound marks' queue' bound' : List ℕ} {j : Result Kind Refusal}
     (l : LoadedAs words image n structs types cells table) → min (length image / 3) 4096 ≤ length marks → min (length image / 3) 4096 ≤ length queue
     → 64 ≤ length bound
     → ScriptJudged (take (17 * n.structs) structs) (take n.types types) (take (3 * n.cells) cells) (take (4 * n.nodes) table) marks queue bound j marks' queue' bound'

@@ -10,7 +10,7 @@ use answers::Answer;
 use calculus::Outcome;
 use cells::{clear, heap_words};
 use image::{Loading, load};
-use judge::{Judged, judge_script};
+use judge::judge_script;
 use machine::{Terms, run};
 
 // The steps that a run may take where no limit is named.
@@ -135,10 +135,10 @@ fn judge_and_run(
         → answering result heap.new ≡ judged_then heap.old (content_verdict heap.old c) (λ _. content_run heap.old limit c) }
 {
     match judge_script(structs, types, cells, nodes, marks, queue, bound) {
-        Judged::Good(kind) => Answer::Ran(place_and_run(
+        Ok(_) => Answer::Ran(place_and_run(
             heap, bound, frames, structs, types, cells, nodes, words, limit,
         )),
-        Judged::Bad(refusal) => Answer::Refused(refusal),
+        Err(refusal) => Answer::Refused(refusal),
     }
 }
 

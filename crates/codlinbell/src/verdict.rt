@@ -5,10 +5,12 @@ ghost use Rattle.codlinbell.specs.Answered.{announced};
 ghost use Rattle.codlinbell.specs.Prepared.{LongTables};
 
 use image::{Loading, load};
-use judge::{Judged, judge_script};
+use calculus::Refusal;
+use cells::Kind;
+use judge::judge_script;
 
 // The verdict on the image over a heap of `words` words, of which at most 4,096 are used.
-pub fn judge_image(image: &[u8], words: usize) -> Judged
+pub fn judge_image(image: &[u8], words: usize) -> Result<Kind, Refusal>
     ensures { as_verdict result ≡ announced (min words 4096) image.now }
 {
     let mut structs = [0u64; 544];
@@ -42,7 +44,7 @@ fn judge_in(
     bound: &mut [u64],
     image: &[u8],
     words: usize,
-) -> Judged
+) -> Result<Kind, Refusal>
     requires { LongTables image.now structs.old types.old cells.old nodes.old marks.old queue.old bound.old bound.old }
     ensures { as_verdict result ≡ announced words image.now }
 {
@@ -62,6 +64,6 @@ fn judge_in(
                 bound,
             )
         }
-        Loading::Refused(refusal) => Judged::Bad(refusal),
+        Loading::Refused(refusal) => Err(refusal),
     }
 }
