@@ -15,6 +15,3 @@ pub record Midway (top : ℕ) (image : List ℕ) (first more at left weight sum 
 
 abbrev pub invariant-loop-at : goal.invariant-loop-at
 invariant-loop-at l = Midway l.top l.image l.first l.more l.at l.left l.weight l.sum
-
-abbrev pub decreases-loop-at : goal.decreases-loop-at
-decreases-loop-at l = l.left
