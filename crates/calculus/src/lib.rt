@@ -5,6 +5,7 @@
 use cells::Cell;
 
 mod operations;
+mod unread;
 
 pub use operations::operation_of;
 
