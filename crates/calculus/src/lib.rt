@@ -4,13 +4,11 @@
 
 use cells::Cell;
 
-mod operations;
+mod codes;
 mod unread;
 
-pub use operations::operation_of;
-
 // What is done with the values of two parts.
-#[derive(Clone, Copy)]
+#[derive(Clone, Copy, Debug, PartialEq, Eq)]
 pub enum Act {
     // The word that the first points to becomes the second.
     Assign,
@@ -18,7 +16,7 @@ pub enum Act {
 }
 
 // What a node does, by its code.
-#[derive(Clone, Copy)]
+#[derive(Clone, Copy, Debug, PartialEq, Eq)]
 pub enum Operation {
     Literal,
     Variable,
@@ -35,47 +33,47 @@ pub enum Operation {
 }
 
 // Why an image is refused, in the order of the numbers 1 to 10.
-#[derive(Clone, Copy)]
+#[derive(Clone, Copy, Debug, PartialEq, Eq)]
 pub enum Fault {
     // The image ends inside a number or before the expression is complete.
-    Ends,
+    Ends = 1,
     // A number is too large or not shortest.
-    Unfit,
+    Unfit = 2,
     // The first number isn't the format's.
-    Format,
+    Format = 3,
     // A count, depth or size is outside the limits.
-    Limit,
+    Limit = 4,
     // A mode, target kind, node code, type, struct or variable number is unknown.
-    Unknown,
+    Unknown = 5,
     // A type entry repeats an earlier one, or a gap is 0.
-    Repeat,
+    Repeat = 6,
     // An address is above W.
-    Beyond,
+    Beyond = 7,
     // Bytes follow the expression.
-    Behind,
+    Behind = 8,
     // No typing rule fits a node.
-    NoRule,
+    NoRule = 9,
     // A literal isn't well typed over the heap.
-    IllTyped,
+    IllTyped = 10,
 }
 
 // A refusal: the fault, and its place: a byte's offset, or a node's number.
-#[derive(Clone, Copy)]
+#[derive(Clone, Copy, Debug, PartialEq, Eq)]
 pub struct Refusal {
     pub fault: Fault,
     pub place: usize,
 }
 
-// Why a step halts.
-#[derive(Clone, Copy)]
+// Why a step halts, in the order of the numbers 1 to 3.
+#[derive(Clone, Copy, Debug, PartialEq, Eq)]
 pub enum Halt {
-    Null,
-    Bounds,
-    Room,
+    Null = 1,
+    Bounds = 2,
+    Room = 3,
 }
 
 // How a run ends.
-#[derive(Clone, Copy)]
+#[derive(Clone, Copy, Debug, PartialEq, Eq)]
 pub enum End {
     // With a value and its type.
     Value(Cell),
@@ -86,7 +84,7 @@ pub enum End {
 }
 
 // What a run answers: its end, the steps taken, and the number of the first unchecked step, 0 if there was none.
-#[derive(Clone, Copy)]
+#[derive(Clone, Copy, Debug, PartialEq, Eq)]
 pub struct Outcome {
     pub end: End,
     pub steps: u64,

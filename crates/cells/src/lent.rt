@@ -3,14 +3,14 @@ ghost use Rattle.std.specs.Prelude.{◌≡◌, ◌+◌, ◌<◌, min, slice_inde
 ghost use Rattle.cells.specs.Lent.{heap_words, word_at, lent_number, stored, put_word, cleared, lowest_run};
 ghost use Rattle.cells.specs.Heap.{undefined};
 
-use crate::code::{as_word, pack};
 use crate::Cell;
+use crate::code::as_word;
 
 // The number at an index, 0 past the end.
 pub fn word(s: &[u64], i: usize) -> u64
     ensures { result ≡ slice_index s.now i }
 {
-    if i < s.len() { s[i] } else { 0 }
+    s.get(i).copied().unwrap_or(0)
 }
 
 // The number at an index becomes v; past the end nothing changes.
@@ -26,7 +26,7 @@ pub fn put(s: &mut [u64], i: usize, v: u64)
 pub fn heap_words(heap: &[u64]) -> usize
     ensures { result ≡ heap_words heap.now }
 {
-    lesser(heap.len() / 2, 4096)
+    (heap.len() / 2).min(4096)
 }
 
 // The word at an address.
@@ -54,8 +54,7 @@ pub fn code_at(heap: &[u64], address: usize) -> u64
 pub fn store(heap: &mut [u64], address: usize, cell: Cell)
     ensures { heap.new ≡ stored heap.old address cell }
 {
-    let kind = cell.kind;
-    put_word(heap, address, cell.value, pack(kind));
+    put_word(heap, address, cell.value, cell.kind.into());
 }
 
 // The word at an address holds the value of the kind with that code from now on; where there is no such word nothing changes.
@@ -73,12 +72,8 @@ pub fn put_word(heap: &mut [u64], address: usize, value: u64, code: u64)
 pub fn clear(heap: &mut [u64], words: usize)
     ensures { heap.new ≡ cleared heap.old words }
 {
-    let end = 2 * lesser(words, heap.len() / 2);
-    let mut i = 0;
-    while i < end {
-        heap[i] = 0;
-        i += 1;
-    }
+    let end = 2 * words.min(heap.len() / 2);
+    heap[..end].fill(0);
 }
 
 // The lowest run of k undefined words within low to high and within the heap. One pass: `run` counts the undefined words just
@@ -86,10 +81,9 @@ pub fn clear(heap: &mut [u64], words: usize)
 pub fn lowest_run(heap: &[u64], k: usize, low: usize, high: usize) -> Option<usize>
     ensures { result ≡ lowest_run heap.now k low high }
 {
-    let last = lesser(high, heap.len() / 2);
-    let mut a = low;
+    let last = high.min(heap.len() / 2);
     let mut run = 0;
-    while a <= last + 1 {
+    for a in low..last + 2 {
         if run == k {
             return Some(a - k);
         }
@@ -98,7 +92,6 @@ pub fn lowest_run(heap: &[u64], k: usize, low: usize, high: usize) -> Option<usi
         } else {
             run = 0;
         }
-        a += 1;
     }
     None
 }
@@ -121,10 +114,4 @@ fn number_at(heap: &[u64], address: usize, j: usize) -> u64
     } else {
         0
     }
-}
-
-fn lesser(a: usize, b: usize) -> usize
-    ensures { result ≡ min a b }
-{
-    if a < b { a } else { b }
 }

@@ -3,14 +3,14 @@
 #![tactic(auto)]
 
 // Whether a pointer, or the code that a step is taken in, is checked.
-#[derive(Clone, Copy)]
+#[derive(Clone, Copy, Debug, PartialEq, Eq)]
 pub enum Mode {
-    Checked,
-    Unchecked,
+    Checked = 0,
+    Unchecked = 1,
 }
 
 // The type of a value: int, or a pointer with its mode to a word type, to a struct or to an array of `count` words, each by number.
-#[derive(Clone, Copy)]
+#[derive(Clone, Copy, Debug, PartialEq, Eq)]
 pub enum Kind {
     Int,
     Word { mode: Mode, of: u8 },
@@ -19,7 +19,7 @@ pub enum Kind {
 }
 
 // A value together with its type.
-#[derive(Clone, Copy)]
+#[derive(Clone, Copy, Debug, PartialEq, Eq)]
 pub struct Cell {
     pub value: u64,
     pub kind: Kind,
@@ -28,7 +28,7 @@ pub struct Cell {
 mod code;
 mod lent;
 
-pub use code::{as_word, pack, unpack};
+pub use code::as_word;
 pub use lent::{
     cell_at, clear, code_at, heap_words, lowest_run, put, put_word, store, value_at, word,
 };

@@ -45,14 +45,8 @@ module _ (free : ℕ → Bool) (k low last : ℕ) where
 pub loop-a-init : goal.loop-a-init
 loop-a-init c = starts _ _ _ _
 
-pub overflow_sub-result : goal.overflow_sub-result
-overflow_sub-result c = search rules
-
 pub returns-then-run-k : goal.returns-then-run-k
-returns-then-run-k c = rw (← c.lesser-last.ensures) (finds _ _ _ _ _ _ c.loop-a.invariant c.if-run-k.true c.loop-a-test.true)
-
-pub overflow_add-run : goal.overflow_add-run
-overflow_add-run c = search rules
+returns-then-run-k c = rw (← c.min-last.ensures) (finds _ _ _ _ _ _ c.loop-a.invariant c.if-run-k.true (search rules))
 
 pub loop-a-preserved : goal.loop-a-preserved
 loop-a-preserved c =
@@ -64,4 +58,4 @@ loop-a-preserved c =
     ]
 
 pub returns : goal.returns
-returns c = rw (← c.lesser-last.ensures) (finds_none _ _ _ _ _ _ c.loop-a.invariant c.loop-a-test.false)
+returns c = rw (← c.min-last.ensures) (finds_none _ _ _ _ _ _ c.loop-a.invariant (search rules))

@@ -1,5 +1,5 @@
 -- `cells::lent::lowest_run` gives the lowest run of undefined words. The loop's invariant is `Counting`: the `run` words before `a`
--- are free, and the search from `low` goes on at the first of them. The measure is how many addresses are left. Assumes nothing.
+-- are free, and the search from `low` goes on at the first of them. Assumes nothing.
 use Rattle.std.proofs.Common.{◌≡◌, ℕ, ◌+◌, ◌-◌, ◌≤◌, Bool, true}
 use Rattle.choice.specs.Choice.{all_from}
 use Rattle.cells.specs.Heap.{undefined}
@@ -15,6 +15,3 @@ pub record Counting (free : ℕ → Bool) (k low last a run : ℕ) : Type 0 wher
 
 abbrev pub invariant-loop-a : goal.invariant-loop-a
 invariant-loop-a l = Counting (λ b. undefined (word_at l.heap b)) l.k l.low l.last l.a l.run
-
-abbrev pub decreases-loop-a : goal.decreases-loop-a
-decreases-loop-a l = (l.last + 2) - l.a

@@ -4,4 +4,4 @@ use Rattle.cells.proofs.lent.store.Goals as goal
 
 pub returns : goal.returns
 unfolding stored
-returns c = rw (c.put_word.ensures, c.pack.ensures)
+returns c = rw (c.put_word.ensures, c.into.ensures)
