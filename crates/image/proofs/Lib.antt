@@ -9,3 +9,14 @@ pub mod Repeats
 pub mod TableLaws
 pub mod Within
 pub mod Tail
+pub mod CellLaws
+pub mod Fills
+pub mod KnownKinds
+pub mod TypeLaws
+pub mod StructLaws
+pub mod Shapes
+pub mod Rows
+pub mod Alike
+pub mod Noded
+pub mod FrontLaws
+pub mod LoadLaws

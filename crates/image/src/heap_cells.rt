@@ -7,7 +7,7 @@ ghost use Rattle.image.specs.Tabling.{read_row, cells_into, placed_into};
 
 use crate::CellRow;
 use crate::number::{read_below, read_limited};
-use crate::rows::put_row;
+use crate::lent_rows::put_row;
 use calculus::{Fault, Refusal};
 use cells::word;
 use numbers::Read;
