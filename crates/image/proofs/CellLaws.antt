@@ -18,7 +18,8 @@ use Rattle.image.specs.Answers.{mapped}
 use Rattle.image.specs.Tabled.{cell_rows}
 use Rattle.image.specs.Parsing.{Parsed, got, refused, then_read, number, below}
 use Rattle.image.specs.Cells.{read_address, read_cell, read_cells}
-use Rattle.image.specs.Tabling.{CellRow, read_row, cell_set, cells_into}
+use Rattle.image.specs.declared.CellRow.{CellRow}
+use Rattle.image.specs.Tabling.{read_row, cell_set, cells_into}
 use Rattle.image.proofs.Gives.{Gives, gives, gives_none, gives_then, gives_test, gives_telling, given_by}
 use Rattle.image.proofs.Each.{Each, each_none, each_more}
 use Rattle.image.proofs.Fills.{Fills, fills, fills_telling, fills_as, fills_more}

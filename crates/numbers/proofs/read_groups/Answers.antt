@@ -5,15 +5,16 @@ use Prim.Native.Nat.{ℕ, zero, suc, ◌+◌, ◌*◌, ◌%◌, ◌-◌, ◌^◌
 use native.Mathlib.Nat.{mod-lt}
 use native.Mathlib.Omega.{arith}
 use lib.ListN.{length, get_or}
+use Rattle.std.proofs.Common.{Err}
 use borrow.Author.Tests.{lt-ltb, le-ltb, le-leb, lt-leb}
-use Rattle.numbers.specs.declared.Number.TheVariants.{Ends, Unfit}
+use Rattle.numbers.specs.declared.Unread.TheVariants.{Ends, Unfit}
 use Rattle.numbers.specs.Reading.{groups, last_group}
 use Rattle.numbers.proofs.Reach.{reach, group_below, reach_top, reach_on, reach_more}
 use Rattle.numbers.proofs.read_groups.Invariants.{Midway}
 use Rattle.numbers.proofs.read_groups.Goals as goal
 
 ends : (top : ℕ) (image : List ℕ) (first left at weight sum : ℕ) → length image ≤ at
-    → groups top image first left at weight sum ≡ Ends (length image)
+    → groups top image first left at weight sum ≡ Err (Ends (length image))
 unfolding groups
 ends top image first zero at weight sum h = rw (le-ltb at (length image) h)
 ends top image first (suc left) at weight sum h = rw (le-ltb at (length image) h)
@@ -28,7 +29,7 @@ record Fitting (weight sum digit : ℕ) : Type 0 where
 
 -- what the invariant gives in a turn
 module _ {top : ℕ} {image : List ℕ} {first more at left weight sum : ℕ} (m : Midway top image first more at left weight sum) where
-  ended : length image ≤ at → Ends (length image) ≡ groups top image first more first 1 0
+  ended : length image ≤ at → Err (Ends (length image)) ≡ groups top image first more first 1 0
   ended h = sym (m.same ∙ ends top image first left at weight sum h)
 
   top_fits : {b : ℕ} → left ≡ 0 → b ≤ top → sum + b * weight < 2 ^ 64
@@ -43,7 +44,7 @@ module _ {top : ℕ} {image : List ℕ} {first more at left weight sum : ℕ} (m
 
   -- what the byte at `at` tells of the number
   module _ {b : ℕ} (inside : at < length image) (read : b ≡ get_or image at 0) where
-    too_large : left ≡ 0 → top < b → Unfit first ≡ groups top image first more first 1 0
+    too_large : left ≡ 0 → top < b → Err (Unfit first) ≡ groups top image first more first 1 0
     unfolding groups
     too_large z h = sym (m.same ∙ rw (z, lt-ltb at (length image) inside, ← read, lt-ltb top b h))
 
@@ -66,12 +67,12 @@ module _ {top : ℕ} {image : List ℕ} {first more at left weight sum : ℕ} (m
         }
 
 pub returns-then-top-group : goal.returns-then-top-group
-returns-then-top-group c = too_large c.loop-at.invariant c.loop-at-test.true c.wide-group.ensures c.if-left-eq0.true c.if-top-group.true
+returns-then-top-group c = too_large c.loop-at.invariant c.loop-at-test.true c.from-group.ensures c.if-left-eq0.true c.if-top-group.true
 
 pub returns-then-left-eq0 : goal.returns-then-left-eq0
 returns-then-left-eq0 c =
     c.last_group.ensures
-    ∙ is_top c.loop-at.invariant c.loop-at-test.true c.wide-group.ensures c.if-left-eq0.true c.if-top-group.false
+    ∙ is_top c.loop-at.invariant c.loop-at-test.true c.from-group.ensures c.if-left-eq0.true c.if-top-group.false
 
 pub last_group-requires-then-group-lt128 : goal.last_group-requires-then-group-lt128
 last_group-requires-then-group-lt128 c = omega (arith, more_fits c.loop-at.invariant c.requires.0 c.if-left-eq0.false c.if-group-lt128.true)
@@ -79,22 +80,22 @@ last_group-requires-then-group-lt128 c = omega (arith, more_fits c.loop-at.invar
 pub returns-then-group-lt128 : goal.returns-then-group-lt128
 returns-then-group-lt128 c =
     c.last_group-then-group-lt128.ensures
-    ∙ is_last c.loop-at.invariant c.loop-at-test.true c.wide-group.ensures c.if-left-eq0.false c.if-group-lt128.true
+    ∙ is_last c.loop-at.invariant c.loop-at-test.true c.from-group.ensures c.if-left-eq0.false c.if-group-lt128.true
 
 pub overflow_mul-sum : goal.overflow_mul-sum
 overflow_mul-sum c =
-    omega (arith, more_fits c.loop-at.invariant c.requires.0 c.if-left-eq0.false (mod-lt c.wide-group.result (omega arith)))
+    omega (arith, more_fits c.loop-at.invariant c.requires.0 c.if-left-eq0.false (mod-lt c.from-group.result (omega arith)))
 
 pub overflow_add-sum : goal.overflow_add-sum
 overflow_add-sum c =
-    omega (arith, more_fits c.loop-at.invariant c.requires.0 c.if-left-eq0.false (mod-lt c.wide-group.result (omega arith)))
+    omega (arith, more_fits c.loop-at.invariant c.requires.0 c.if-left-eq0.false (mod-lt c.from-group.result (omega arith)))
 
 pub overflow_mul-weight : goal.overflow_mul-weight
 overflow_mul-weight c =
-    omega (arith, more_fits c.loop-at.invariant c.requires.0 c.if-left-eq0.false (mod-lt c.wide-group.result (omega arith)))
+    omega (arith, more_fits c.loop-at.invariant c.requires.0 c.if-left-eq0.false (mod-lt c.from-group.result (omega arith)))
 
 pub loop-at-preserved : goal.loop-at-preserved
-loop-at-preserved c = turn c.loop-at.invariant c.loop-at-test.true c.wide-group.ensures c.if-left-eq0.false c.if-group-lt128.false
+loop-at-preserved c = turn c.loop-at.invariant c.loop-at-test.true c.from-group.ensures c.if-left-eq0.false c.if-group-lt128.false
 
 pub returns : goal.returns
 returns c = ended c.loop-at.invariant c.loop-at-test.false

@@ -1,6 +1,5 @@
 -- `numbers::read_groups` gives what `groups` says of the number at `first`. The loop's invariant is `Midway`: the groups passed are
--- worth less than the next one's weight, what may follow still fits, and the number is the one from here on. The measure is how many
--- groups may still stand before the top one. Assumes nothing.
+-- worth less than the next one's weight, what may follow still fits, and the number is the one from here on. Assumes nothing.
 use mathlib.Core.Path.{◌≡◌}
 use mathlib.Core.List.{List}
 use Prim.Native.Nat.{ℕ, ◌^◌, ◌<◌, ◌≤◌}
@@ -15,6 +14,3 @@ pub record Midway (top : ℕ) (image : List ℕ) (first more at left weight sum 
 
 abbrev pub invariant-loop-at : goal.invariant-loop-at
 invariant-loop-at l = Midway l.top l.image l.first l.more l.at l.left l.weight l.sum
-
-abbrev pub decreases-loop-at : goal.decreases-loop-at
-decreases-loop-at l = l.left
