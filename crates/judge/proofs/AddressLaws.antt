@@ -11,7 +11,7 @@ use native.Mathlib.Omega.{arith}
 use lib.Dec.{eqb, ltb, leb}
 use borrow.Author.Tests.{ltb-true, ltb-false, lt-leb, leb-true, leb-false, eqb-true, eq-eqb}
 use Rattle.choice.specs.Choice.{choose, choose_told}
-use Rattle.judge.specs.Tables.{entry_at}
+use Rattle.judge.specs.Rows.{entry_at}
 use Rattle.judge.specs.Addresses.{middle, entries, lowest_from, place, present, covered}
 use Rattle.judge.proofs.Lists.{has_number}
 use Rattle.judge.proofs.HeldTables.{Entry}

@@ -17,7 +17,7 @@ use Rattle.calculus.specs.Setting.{cell}
 use Rattle.calculus.proofs.Same.{not_held}
 use Rattle.image.specs.Content.{Placed, placed, heap_of}
 use Rattle.image.specs.Tabled.{cell_rows}
-use Rattle.judge.specs.Tables.{table_number, entry_at}
+use Rattle.judge.specs.Rows.{table_number, entry_at}
 use Rattle.judge.specs.Addresses.{entries}
 use Rattle.judge.specs.Premises.{CellsRise, none, more}
 use Rattle.judge.proofs.Lists.{in_row_lem}

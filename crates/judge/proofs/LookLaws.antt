@@ -17,14 +17,16 @@ use Rattle.calculus.specs.Setting.{Setting, cell, size, word_kind}
 use Rattle.calculus.specs.Literal.{is_base}
 use Rattle.calculus.proofs.Same.{holds, refuted, fails}
 use Rattle.calculus.specs.Reach.{Good, good_base, good_words}
-use Rattle.judge.specs.Tables.{entry_at, tag_in}
+use Rattle.tables.specs.Kinds.{code_tag, word_type_at, HoldsSetting}
+use Rattle.judge.specs.Rows.{entry_at}
 use Rattle.judge.specs.Addresses.{entries, covered}
 use Rattle.judge.specs.Marks.{Seen}
 use Rattle.judge.specs.Literals as model
 use Rattle.judge.specs.Literals.{Looking, on, off, span, claim, look_fields, look_alike, look_words, look_found}
-use Rattle.judge.proofs.HeldTables.{SettingCoded, HoldsHeap, literal_at}
+use Rattle.judge.proofs.HeldTables.{HoldsHeap, literal_at}
 use Rattle.judge.proofs.AddressLaws.{found_there, there_found}
-use Rattle.judge.proofs.Shapes.{claim_kind, word_small, span_base, span_size}
+use Rattle.tables.proofs.Held.{word_code_lem, words_small}
+use Rattle.judge.proofs.Spans.{span_base, span_size}
 use Rattle.judge.proofs.MarkLaws.{HasMark, Grown, grown_none}
 use Rattle.judge.proofs.ReachLaws.{Fit, Joins, Words, words_on, words_off, alike, fields}
 
@@ -50,7 +52,7 @@ pub closed_still : {structs types cells marks marks' : List ℕ} {v code : ℕ} 
 closed_still still c =
     record { each = λ i l. let w = c.each i l in record { index = w.index; needed = w.needed; marked = still w.index w.marked } }
 
-module _ {S : Setting} {H : Heap} {structs types cells : List ℕ} (hs : SettingCoded S structs types) (hh : HoldsHeap H cells) where
+module _ {S : Setting} {H : Heap} {structs types cells : List ℕ} (hs : HoldsSetting S structs types) (hh : HoldsHeap H cells) where
   -- what a look may find
   pub data Looks (P : ℕ → Type 0) (s : Seen) (v code : ℕ) : Looking → Type 0 where
     looks_on : {s' : Seen} → Grown cells P s s' → Fit cells s' → Closed structs types cells s'.marks v code → Looks P s v code (on s')
@@ -66,12 +68,12 @@ module _ {S : Setting} {H : Heap} {structs types cells : List ℕ} (hs : Setting
   right_code v code i j w l b a t =
       let e : Some (literal_at cells j) ≡ Some (cell w (word_kind S (unpacked code) i)) = sym (hh.held j b) ∙ rw a t in
       let f : literal_at cells j ≡ cell w (word_kind S (unpacked code) i) = cc in
-      sym (hh.exact j b) ∙ ap (λ (c : Cell). packed c.kind) f ∙ sym (claim_kind hs code i l)
+      sym (hh.exact j b) ∙ ap (λ (c : Cell). packed c.kind) f ∙ sym (word_code_lem hs code i l)
 
   -- an entry with the code claimed is a word of the right kind
   pub right_kind : (code i j : ℕ) → i < size S (unpacked code) → entry_at cells j 2 ≡ claim structs types code i
       → unpacked (entry_at cells j 2) ≡ word_kind S (unpacked code) i
-  right_kind code i j l e = ap unpacked (e ∙ claim_kind hs code i l) ∙ round_trip (word_small hs (unpacked code) i)
+  right_kind code i j l e = ap unpacked (e ∙ word_code_lem hs code i l) ∙ round_trip (words_small hs (unpacked code) i)
 
   module _ (v code : ℕ) (n : span structs v code ≡ 0 → ⊥) where
     abbrev found : Option ℕ
@@ -109,8 +111,8 @@ module _ {S : Setting} {H : Heap} {structs types cells : List ℕ} (hs : Setting
       words_looked (off marks queue) (words_off a) = looks_off (λ g. a (good_codes first m g))
 
       -- all words of a pointer to anything but a struct are claimed to be alike
-      same_claim : (eqb (tag_in code) 2 ≡ false) → (i : ℕ) → claim structs types code i ≡ claim structs types code 0
-      unfolding claim
+      same_claim : (eqb (code_tag code) 2 ≡ false) → (i : ℕ) → claim structs types code i ≡ claim structs types code 0
+      unfolding word_type_at
       same_claim t i = rw t
 
       looks_words : {P : ℕ → Type 0} (s : Seen) → Fit cells s → ((i j : ℕ) → Needed structs types cells v code i j → P j)
@@ -121,7 +123,7 @@ module _ {S : Setting} {H : Heap} {structs types cells : List ℕ} (hs : Setting
           let z : first + 0 ≡ first = omega arith in
           let joins : Joins cells P (claim structs types code) (span structs v code) first =
           record { each = λ d l e. p d (first + d) (found_needed d l e) } in
-          choose_told (Looks P s v code) (eqb (tag_in code) 2)
+          choose_told (Looks P s v code) (eqb (code_tag code) 2)
           (λ _. look_fields structs types cells code first (span structs v code) 0 s)
           (λ _. look_alike cells (claim structs types code 0) (span structs v code) (span structs v code) first s)
           (λ u. words_looked _

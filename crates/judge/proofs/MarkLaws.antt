@@ -4,15 +4,16 @@ use mathlib.Core.Path.{◌≡◌, refl, sym, ◌∙◌}
 use mathlib.Core.Logic.{◌⊎◌, inl, inr, ⊎_elim}
 use mathlib.Core.Bool.{Bool, true, false}
 use mathlib.Core.List.{List}
-use Prim.Native.Nat.{ℕ, zero, suc, ◌+◌, ◌%◌, ◌≤◌, ◌<◌}
+use Prim.Native.Nat.{ℕ, zero, suc, ◌+◌, ◌≤◌, ◌<◌}
 use native.Mathlib.Decide.{ℕ_discrete, dec_lt}
 use native.Mathlib.Omega.{arith}
 use lib.Dec.{eqb}
 use lib.ListN.{length, length-set, get_or, set}
 use lib.Seq.{get_or-set_same, get_or-set_other}
-use borrow.Author.Tests.{eqb-true, eq-eqb, ne_eqb, lt-ltb}
+use borrow.Author.Tests.{eq-eqb, ne_eqb, lt-ltb}
 use Rattle.choice.specs.Choice.{choose, choose_case, choose_told}
-use Rattle.judge.specs.Tables.{entry_at}
+use Rattle.tables.specs.Kinds.{code_checked}
+use Rattle.judge.specs.Rows.{entry_at}
 use Rattle.judge.specs.Marks.{Seen, seen, marked}
 
 -- entry j is marked
@@ -107,7 +108,7 @@ pub record Queued (s : Seen) (from j : ℕ) : Type 0 where
 
 -- words of entry j's code never need others
 abbrev pub Plain : List ℕ → ℕ → Type 0
-Plain cells j = entry_at cells j 2 % 2 ≡ 1
+Plain cells j = code_checked (entry_at cells j 2) ≡ false
 
 -- From s to s' more was seen. What is new is plain or joined the queue, and what joined it has the property P.
 pub record Grown (cells : List ℕ) (P : ℕ → Type 0) (s s' : Seen) : Type 0 where
@@ -212,11 +213,11 @@ module _ {cells : List ℕ} {P : ℕ → Type 0} {n : ℕ} (j v : ℕ) (s : Seen
   marks_new code e z p =
       let less : suc (blank n (set s.marks j v)) ≡ blank n s.marks = blank_less n s.marks j v o l r.long z in
       rw (eq-eqb (get_or s.marks j 0) 0 z, lt-ltb s.tail (length s.queue) (omega (arith, r.room)))
-      (choose_told (Marks cells P n j v s) (eqb (code % 2) 1)
-      (λ _. seen (set s.marks j v) s.queue s.tail)
+      (choose_told (Marks cells P n j v s) (code_checked code)
       (λ _. seen (set s.marks j v) (set s.queue s.tail j) (s.tail + 1))
-      (λ t. marks_plain z (rw e (eqb-true (code % 2) 1 t)))
-      (λ t. marks_queued z p))
+      (λ _. seen (set s.marks j v) s.queue s.tail)
+      (λ t. marks_queued z p)
+      (λ t. marks_plain z (rw e t)))
 
   pub marks_raised : HasMark s.marks j → Marks cells P n j v s (seen (set s.marks j v) s.queue s.tail)
   marks_raised m =

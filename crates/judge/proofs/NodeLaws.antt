@@ -37,14 +37,14 @@ use Rattle.image.specs.Tabled.{one_operation, one_argument, one_kind, two_operat
 use Rattle.image.specs.Shape.{SmallExpr, small_lit, small_var, small_malloc, small_bind, small_one, small_two}
 use Rattle.image.specs.Shape.{SmallOne, small_unchecked, small_cast, small_read, small_field}
 use Rattle.judge.specs.Premises.{nested}
-use Rattle.judge.specs.Tables.{node_number, operation_at, size_of}
+use Rattle.judge.specs.Rows.{node_number, operation_at}
 use Rattle.judge.specs.Literals.{is_literal}
 use Rattle.judge.specs.Parts.{parts_of, as_access, is_access, inner_mode, is_let, inner_lets, bound_with}
 use Rattle.judge.specs.Rules as model
 use Rattle.judge.specs.Nodes.{Judging, judging, then_judging, judge_node}
 use Rattle.judge.proofs.Lists.{in_row_lem}
-use Rattle.judge.proofs.HeldTables.{SettingCoded}
-use Rattle.judge.proofs.Shapes.{size_of_lem}
+use Rattle.tables.specs.Kinds.{HoldsSetting}
+use Rattle.tables.proofs.Held.{size_kind}
 use Rattle.judge.proofs.PassLaws.{LiteralNode, well_at, FirstBad}
 use Rattle.judge.proofs.RuleLaws.{ToldRight, right_good, right_bad, right_if, access_told_right, field_told_right, cast_told_right, act_told_right}
 
@@ -191,7 +191,7 @@ two_some : (o : Two) → is_literal (two_operation o) ≡ false
 two_some (act o) = refl
 
 -- ---- the induction
-module _ {S : Setting} {H : Heap} {structs types table : List ℕ} {first : ℕ} (hs : SettingCoded S structs types)
+module _ {S : Setting} {H : Heap} {structs types table : List ℕ} {first : ℕ} (hs : HoldsSetting S structs types)
     (fb : FirstBad S H table first) where
   -- a node that is no literal is not the first bad one
   beyond : (i : ℕ) (o : Operation) → operation_at table i ≡ o → is_literal o ≡ false → i < length table / 4 → i ≤ first → suc i ≤ first
@@ -234,9 +234,7 @@ module _ {S : Setting} {H : Heap} {structs types table : List ℕ} {first : ℕ}
         (judging (model.malloc_told structs i (node_number table i 2)) bound)
     unfolding model.malloc_told
     malloc_meets ω r s =
-        let z : size_of structs (packed (pointer Checked ω)) ≡ size S (pointer Checked ω) =
-        size_of_lem hs (packed (pointer Checked ω)) ∙ ap (size S) (round_trip s) in
-        rw (r.kind_is, z)
+        rw (r.kind_is, size_kind hs s)
         (ruled (right_if (ltb 0 (size S (pointer Checked ω))) (pointer Checked ω) i (λ _. s)) b refl
         (omega (arith, beyond i op.Malloc r.operation_is refl l h)))
 

@@ -13,12 +13,13 @@ use Rattle.cells.specs.Heap.{Heap}
 use Rattle.calculus.specs.Setting.{Setting}
 use Rattle.calculus.specs.Literal.{literal_well}
 use Rattle.calculus.proofs.Same.{as_true, refuted}
-use Rattle.judge.specs.Tables.{node_number, operation_at}
+use Rattle.tables.specs.Kinds.{HoldsSetting}
+use Rattle.judge.specs.Rows.{node_number, operation_at}
 use Rattle.judge.specs.Addresses.{entries}
 use Rattle.judge.specs.Marks.{Seen, seen}
 use Rattle.judge.specs.Literals as model
 use Rattle.judge.specs.Literals.{Looking, on, off, is_literal, then_next}
-use Rattle.judge.proofs.HeldTables.{SettingCoded, HoldsHeap}
+use Rattle.judge.proofs.HeldTables.{HoldsHeap}
 use Rattle.judge.proofs.MarkLaws.{blank_most}
 use Rattle.judge.proofs.QueueLaws.{Settled, Judges, judges_good, judges_bad, judges}
 
@@ -37,7 +38,7 @@ pub record FirstBad (S : Setting) (H : Heap) (table : List ℕ) (r : ℕ) : Type
   pub literal : r < length table / 4 → LiteralNode table r
   pub bad : r < length table / 4 → well_at S H table r ≡ false
 
-module _ {S : Setting} {H : Heap} {structs types cells : List ℕ} (hs : SettingCoded S structs types) (hh : HoldsHeap H cells)
+module _ {S : Setting} {H : Heap} {structs types cells : List ℕ} (hs : HoldsSetting S structs types) (hh : HoldsHeap H cells)
     (table : List ℕ) where
   -- row i after the look at it
   data Rows (i : ℕ) : Looking → Type 0 where

@@ -5,7 +5,7 @@ use mathlib.Core.Path.{◌≡◌, refl, subst, ap}
 use mathlib.Core.Logic.{◌⊎◌, inl, inr, ⊎_elim}
 use mathlib.Core.Bool.{Bool, true, false}
 use mathlib.Core.List.{List, []}
-use Prim.Native.Nat.{ℕ, zero, suc, ◌+◌, ◌%◌, ◌≤◌, ◌<◌}
+use Prim.Native.Nat.{ℕ, zero, suc, ◌+◌, ◌≤◌, ◌<◌}
 use native.Mathlib.Decide.{ℕ_discrete, dec_lt}
 use native.Mathlib.Omega.{arith}
 use lib.Dec.{eqb, ltb}
@@ -23,18 +23,19 @@ use Rattle.calculus.proofs.Same.{holds, as_true, fails}
 use Rattle.calculus.specs.Reach.{Good, good_base, good_words, Covers, Reach, itself, further}
 use Rattle.calculus.proofs.Scope.{well_good, reach_well}
 use Rattle.calculus.proofs.Literals.{closed_test, test_well}
-use Rattle.judge.specs.Tables.{entry_at, size_of}
+use Rattle.tables.specs.Kinds.{code_checked, size_at, HoldsSetting}
+use Rattle.judge.specs.Rows.{entry_at}
 use Rattle.judge.specs.Addresses.{entries}
 use Rattle.judge.specs.Marks.{Seen}
 use Rattle.judge.specs.Literals as model
 use Rattle.judge.specs.Literals.{Looking, on, off, span, then_look}
-use Rattle.judge.proofs.HeldTables.{SettingCoded, HoldsHeap, literal_at}
-use Rattle.judge.proofs.Shapes.{span_base, span_size}
+use Rattle.judge.proofs.HeldTables.{HoldsHeap, literal_at}
+use Rattle.judge.proofs.Spans.{span_base, span_size}
 use Rattle.judge.proofs.MarkLaws.{HasMark, Plain, Queued, queued_still, queued_from, Grown}
 use Rattle.judge.proofs.ReachLaws.{Fit}
 use Rattle.judge.proofs.LookLaws.{Needed, Closed, closed_still, Looks, looks_on, looks_off, right_kind, looks}
 
-module _ {S : Setting} {H : Heap} {structs types cells : List ℕ} (hs : SettingCoded S structs types) (hh : HoldsHeap H cells) where
+module _ {S : Setting} {H : Heap} {structs types cells : List ℕ} (hs : HoldsSetting S structs types) (hh : HoldsHeap H cells) where
   -- the words that entry j needs are marked
   abbrev ClosedEntry : List ℕ → ℕ → Type 0
   ClosedEntry marks j = Closed structs types cells marks (entry_at cells j 1) (entry_at cells j 2)
@@ -49,7 +50,7 @@ module _ {S : Setting} {H : Heap} {structs types cells : List ℕ} (hs : Setting
             (let z : span structs (entry_at cells j 1) (entry_at cells j 2) ≡ 0 = needs_none (eqb (entry_at cells j 1) 0) in omega arith);
       }
     where
-      needs_none : (t : Bool) → choose t (λ _. 0) (λ _. choose (eqb (entry_at cells j 2 % 2) 0) (λ _. size_of structs (entry_at cells j 2)) (λ _. 0)) ≡ 0
+      needs_none : (t : Bool) → choose t (λ _. 0) (λ _. choose (code_checked (entry_at cells j 2)) (λ _. size_at structs (entry_at cells j 2)) (λ _. 0)) ≡ 0
       needs_none true = refl
       needs_none false = rw p
 

@@ -12,7 +12,7 @@ use lib.ListN.{length, get_or, set}
 use lib.Seq.{get_or-set_same, get_or-set_other}
 use borrow.Author.Tests.{eqb-true, eqb-false, ltb-true, ltb-false, leb-true, leb-false, ne_eqb}
 use Rattle.choice.specs.Choice.{choose_told}
-use Rattle.judge.specs.Tables.{entry_at}
+use Rattle.judge.specs.Rows.{entry_at}
 use Rattle.judge.specs.Addresses.{entries}
 use Rattle.judge.specs.Marks.{Seen, alone, marked}
 use Rattle.judge.specs.Literals.{Looking, on, off, claim, look_alike, look_fields}

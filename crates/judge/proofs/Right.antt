@@ -14,12 +14,13 @@ use Rattle.calculus.specs.Typing.{whole}
 use Rattle.calculus.specs.Judge.{Verdict, good, judged}
 use Rattle.image.specs.Content.{Content, setting_of, heap_of}
 use Rattle.image.specs.Tabled.{Held}
+use Rattle.tables.specs.Kinds.{HoldsSetting}
 use Rattle.judge.specs.Premises.{Readied}
 use Rattle.judge.specs.Literals.{first_bad}
 use Rattle.judge.specs.Addresses.{entries}
 use Rattle.judge.specs.Nodes.{Judging}
 use Rattle.judge.specs.Script.{as_judged, as_verdict, judged_script}
-use Rattle.judge.proofs.HeldTables.{SettingCoded, HoldsHeap}
+use Rattle.judge.proofs.HeldTables.{HoldsHeap}
 use Rattle.judge.proofs.Entries.{entries_rows, holds_heap}
 use Rattle.judge.proofs.PassLaws.{FirstBad, first_bad_lem}
 use Rattle.judge.proofs.NodeLaws.{bounds_none, Meets, meets_good, meets_bad, meets}
@@ -33,7 +34,7 @@ code_of_lem (κ ∷ ts) (suc n) = code_of_lem ts n
 
 module _ {words : ℕ} {c : Content} {structs types cells table marks queue bound : List ℕ}
     (h : Held c structs types cells table) (r : Readied words c marks queue bound) where
-  holds_setting : SettingCoded (setting_of words c) structs types
+  holds_setting : HoldsSetting (setting_of words c) structs types
   holds_setting =
       record {
         count = h.structs_held.count;

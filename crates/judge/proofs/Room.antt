@@ -4,13 +4,14 @@ use Rattle.std.proofs.lemmas.Option.{none-some}
 use mathlib.Core.Path.{◌≡◌, refl, ◌∙◌}
 use mathlib.Core.Bool.{Bool, true, false}
 use mathlib.Core.List.{List}
-use Prim.Native.Nat.{ℕ, zero, suc, ◌+◌, ◌-◌, ◌%◌, ◌≤◌, ◌<◌}
+use Prim.Native.Nat.{ℕ, zero, suc, ◌+◌, ◌-◌, ◌≤◌, ◌<◌}
 use native.Mathlib.Omega.{arith}
 use lib.Dec.{eqb, ltb, leb}
 use lib.ListN.{length, length-set, get_or, set}
 use borrow.Author.Tests.{ltb-true, leb-false}
 use Rattle.choice.specs.Choice.{choose, choose_case, choose_told}
-use Rattle.judge.specs.Tables.{entry_at, node_number, operation_at, tag_in}
+use Rattle.tables.specs.Kinds.{code_checked, code_tag}
+use Rattle.judge.specs.Rows.{entry_at, node_number, operation_at}
 use Rattle.judge.specs.Addresses.{present, covered, entries, place}
 use Rattle.judge.specs.Marks.{Seen, seen, alone, marked}
 use Rattle.judge.specs.Literals.{Looking, on, off, span, claim, look_alike, look_fields, look_found, look_at, drain, literal_look}
@@ -55,12 +56,12 @@ keeps_marked : (code reach j : ℕ) (s : Seen) → KeepsQueue s (marked code rea
 unfolding marked
 keeps_marked code reach j s =
     choose_case (KeepsQueue s) (eqb (get_or s.marks j 0) 0) _ (λ _. s)
-    (choose_case (KeepsQueue s) (eqb (code % 2) 1) (λ _. seen (set s.marks j reach) s.queue s.tail) _
-    (record { long = refl; ends = λ h. h })
+    (choose_case (KeepsQueue s) (code_checked code) _ (λ _. seen (set s.marks j reach) s.queue s.tail)
     (choose_told (KeepsQueue s) (ltb s.tail (length s.queue))
     (λ _. seen (set s.marks j reach) (set s.queue s.tail j) (s.tail + 1)) (λ _. s)
     (λ t. record { long = simp length-set; ends = λ _. simp length-set (omega (arith, ltb-true s.tail (length s.queue) t)) })
-    (λ _. keeps_none s)))
+    (λ _. keeps_none s))
+    (record { long = refl; ends = λ h. h }))
     (keeps_none s)
 
 -- what is seen behind a look keeps it so
@@ -103,7 +104,7 @@ module _ (structs types cells : List ℕ) where
 
   found_after : (found : Option ℕ) (code count : ℕ) (s : Seen) → After s (look_found structs types cells found code count s)
   found_after (Some j) code count s =
-      choose_case (After s) (eqb (tag_in code) 2) (λ _. look_fields structs types cells code j count 0 s)
+      choose_case (After s) (eqb (code_tag code) 2) (λ _. look_fields structs types cells code j count 0 s)
       (λ _. look_alike cells (claim structs types code 0) count count j s)
       (fields_after code j count 0 s)
       (alike_after cells (claim structs types code 0) count count j s)

@@ -1,21 +1,20 @@
 -- Each rule over codes says what the definition's rule says of their kinds.
 use Rattle.std.specs.Prelude.{Result, Ok, Err}
-use mathlib.Core.Path.{◌≡◌, refl, sym, ◌∙◌, ap}
-use mathlib.Core.Bool.{Bool, true, false, not}
+use mathlib.Core.Path.{◌≡◌, refl, sym, ap}
+use mathlib.Core.Bool.{Bool, true, false}
 use mathlib.Core.List.{List}
-use Prim.Native.Nat.{ℕ, ◌+◌, ◌*◌, ◌%◌, ◌<◌}
-use native.Mathlib.Nat.{mod-eq_of_lt}
+use Prim.Native.Nat.{ℕ, ◌%◌}
 use lib.Dec.{eqb, ltb}
 use lib.ListN.{length, get_or}
 use borrow.Author.Tests.{eq-eqb, ne_eqb, ltb-true}
 use Rattle.choice.specs.Choice.{choose, both, either, choose_case}
-use Rattle.cells.specs.Code.{mode_number, mode_of, packed, unpacked, number_in, Small, small_int, small_word, small_struct, small_array}
+use Rattle.cells.specs.Code.{mode_of, packed, number_in, Small, small_int, small_word, small_struct, small_array}
 use Rattle.cells.specs.Same.{same_kind}
 use Rattle.cells.specs.declared.Mode.{Mode}
 use Rattle.cells.specs.declared.Mode.TheVariants.{Checked, Unchecked}
 use Rattle.cells.specs.declared.Kind.{Kind}
 use Rattle.cells.specs.declared.Kind.TheVariants.{Int, Word, Struct, Array}
-use Rattle.cells.proofs.Codes.{round_trip, packed_injective}
+use Rattle.cells.proofs.Codes.{packed_injective}
 use Rattle.calculus.specs.Setting.{Setting, kind_of, fields_of, checked_pointer}
 use Rattle.calculus.specs.Expr.{cast}
 use Rattle.calculus.specs.Typing as typing
@@ -28,13 +27,13 @@ use Rattle.calculus.specs.declared.Fault.{Fault}
 use Rattle.calculus.specs.declared.Fault.TheVariants.{NoRule}
 use Rattle.calculus.specs.declared.Refusal.{Refusal}
 use Rattle.calculus.proofs.Same.{as_true, refuted, same_kind_lem, kind_same}
-use Rattle.judge.specs.Tables.{tag_in, code_of, field_at}
 use Rattle.judge.specs.Parts.{as_access}
 use Rattle.judge.specs.Rules as model
 use Rattle.judge.specs.Rules.{then_told}
-use Rattle.judge.proofs.HeldTables.{SettingCoded}
-use Rattle.judge.proofs.Shapes.{Shape, shape_int, shape_word, shape_struct, shape_array, shape, Side, even, odd, side}
-use Rattle.judge.proofs.Shapes.{kind_int, kind_word_lem, kind_struct, kind_array}
+use Rattle.tables.specs.Kinds.{code_tag, code_checked, field_type_at, type_code_at, word_code, HoldsSetting}
+use Rattle.tables.proofs.Coded.{Coded, coded_int, coded_word, coded_struct, coded_array, coded_kind}
+use Rattle.tables.proofs.Held.{field_code, field_small}
+use Rattle.judge.proofs.Spans.{tested, tested_checked}
 
 -- the code's verdict is the definition's: a kind whose numbers fit, by its code, or the same fault
 pub data ToldRight : Verdict → Result ℕ Refusal → Type 0 where
@@ -62,34 +61,21 @@ same_code {κ} {κ'} s s' = go (same_kind κ κ') refl
         sym (ne_eqb _ _ (λ f. refuted e (let g : κ ≡ κ' = packed_injective s s' f in rw g (kind_same κ'))))
 
 -- a code's mode
-number_of_mode : (code : ℕ) → mode_number (mode_of (code % 2)) ≡ code % 2
-number_of_mode code = go (side code)
-  where
-    go : Side code → mode_number (mode_of (code % 2)) ≡ code % 2
-    go (even e) = rw e
-    go (odd e) = rw e
+follows_tested : (t : Bool) → typing.follows Checked (tested t) ≡ t
+follows_tested true = refl
+follows_tested false = refl
 
 follows_same : (m : Mode) (code : ℕ) → typing.follows m (mode_of (code % 2)) ≡ model.follows_code m code
-follows_same Checked code = go (side code)
-  where
-    go : Side code → typing.follows Checked (mode_of (code % 2)) ≡ eqb (code % 2) 0
-    go (even e) = rw e
-    go (odd e) = rw e
+follows_same Checked code = follows_tested (code_checked code)
 follows_same Unchecked code = refl
 
-castable_same : (m : Mode) (code : ℕ) → typing.castable m (unpacked code) ≡ model.castable_code m code
+castable_same : {code : ℕ} {κ : Kind} → Coded code κ → (m : Mode) → typing.castable m κ ≡ model.castable_code m code
 unfolding checked_pointer
-castable_same Checked code = go (shape code) (side code)
-  where
-    go : Shape code → Side code → not (checked_pointer (unpacked code)) ≡ either (eqb (tag_in code) 0) (eqb (code % 2) 1)
-    go (shape_int e) s = rw (kind_int code e, e)
-    go (shape_word e) (even f) = rw (kind_word_lem code e, e, f)
-    go (shape_word e) (odd f) = rw (kind_word_lem code e, e, f)
-    go (shape_struct e) (even f) = rw (kind_struct code e, e, f)
-    go (shape_struct e) (odd f) = rw (kind_struct code e, e, f)
-    go (shape_array e) (even f) = rw (kind_array code e, e, f)
-    go (shape_array e) (odd f) = rw (kind_array code e, e, f)
-castable_same Unchecked code = refl
+castable_same (coded_int e) Checked = rw e
+castable_same {code} (coded_word e) Checked = rw (e, tested_checked (code_checked code))
+castable_same {code} (coded_struct e) Checked = rw (e, tested_checked (code_checked code))
+castable_same {code} (coded_array e) Checked = rw (e, tested_checked (code_checked code))
+castable_same c Unchecked = refl
 
 -- an array's code
 abbrev is_array : Kind → Bool
@@ -98,44 +84,35 @@ is_array (Word m n) = false
 is_array (Struct m s) = false
 is_array (Array m k n) = true
 
-array_code : (code : ℕ) → eqb (tag_in code) 3 ≡ is_array (unpacked code)
-array_code code = go (shape code)
-  where
-    go : Shape code → eqb (tag_in code) 3 ≡ is_array (unpacked code)
-    go (shape_int e) = rw (kind_int code e, e)
-    go (shape_word e) = rw (kind_word_lem code e, e)
-    go (shape_struct e) = rw (kind_struct code e, e)
-    go (shape_array e) = rw (kind_array code e, e)
-
-array_tag : {κ : Kind} → Small κ → eqb (tag_in (packed κ)) 3 ≡ is_array κ
-array_tag {κ} s = array_code (packed κ) ∙ ap is_array (round_trip s)
+array_tag : {code : ℕ} {κ : Kind} → Coded code κ → eqb (code_tag code) 3 ≡ is_array κ
+array_tag (coded_int e) = rw e
+array_tag (coded_word e) = rw e
+array_tag (coded_struct e) = rw e
+array_tag (coded_array e) = rw e
 
 -- an int's code
 int_code : {κ : Kind} → Small κ → eqb (packed κ) 1 ≡ same_kind κ Int
 unfolding packed
 int_code s = sym (same_code s small_int)
 
-module _ {S : Setting} {structs types : List ℕ} (h : SettingCoded S structs types) (m : Mode) (i : ℕ) where
+module _ {S : Setting} {structs types : List ℕ} (h : HoldsSetting S structs types) (m : Mode) (i : ℕ) where
   -- an access through a pointer
-  access_code : (code : ℕ) → ToldRight (definition.access_rule S m i (unpacked code) good) (model.access_told types m i code)
-  unfolding model.access_told
-  access_code code = go (shape code)
-    where
-      element : ToldRight
-          (choose (typing.follows m (mode_of (code % 2))) (λ _. good (kind_of S (number_in code))) (λ _. bad NoRule i))
-          (choose (model.follows_code m code) (λ _. Ok (code_of types (number_in code))) (λ _. model.no_rule_told i))
-      element =
-          rw (follows_same m code, h.codes (number_in code))
-          (right_if (model.follows_code m code) (kind_of S (number_in code)) i (λ _. h.small (number_in code)))
+  element_right : (code : ℕ) → ToldRight
+      (choose (typing.follows m (mode_of (code % 2))) (λ _. good (kind_of S (number_in code))) (λ _. bad NoRule i))
+      (choose (model.follows_code m code) (λ _. Ok (type_code_at types (number_in code))) (λ _. model.no_rule_told i))
+  element_right code =
+      rw (follows_same m code, h.codes (number_in code))
+      (right_if (model.follows_code m code) (kind_of S (number_in code)) i (λ _. h.small (number_in code)))
 
-      go : Shape code → ToldRight (definition.access_rule S m i (unpacked code) good) (model.access_told types m i code)
-      go (shape_int e) = rw (kind_int code e, e) right_bad
-      go (shape_word e) = rw (kind_word_lem code e, e) element
-      go (shape_struct e) = rw (kind_struct code e, e) right_bad
-      go (shape_array e) = rw (kind_array code e, e) element
+  access_coded : {code : ℕ} {κ : Kind} → Coded code κ → ToldRight (definition.access_rule S m i κ good) (model.access_told types m i code)
+  unfolding model.access_told
+  access_coded (coded_int e) = rw e right_bad
+  access_coded {code} (coded_word e) = rw e (element_right code)
+  access_coded (coded_struct e) = rw e right_bad
+  access_coded {code} (coded_array e) = rw e (element_right code)
 
   pub access_told_right : {κ : Kind} → Small κ → ToldRight (definition.access_rule S m i κ good) (model.access_told types m i (packed κ))
-  access_told_right {κ} s = rw (round_trip s) at (access_code (packed κ))
+  access_told_right s = access_coded (coded_kind s)
 
   -- what is done with the element type comes behind the rule
   behind : (go : Kind → Verdict) (t : Bool) (κ : Kind)
@@ -160,37 +137,28 @@ module _ {S : Setting} {structs types : List ℕ} (h : SettingCoded S structs ty
       (λ ε t. rw (same_code s' t) (right_if (eqb (packed κ') (packed ε)) ε i (λ _. t))))
 
   -- a field address
-  field_code : (f code : ℕ) → ToldRight (definition.field_rule S m i f (unpacked code)) (model.field_told structs i f code)
-  unfolding model.field_told packed
-  field_code f code = go (shape code)
-    where
-      there : (t : Bool) → ltb f (length (fields_of S (number_in code))) ≡ t
-          → ToldRight
-          (choose t (λ _. good (Word (mode_of (code % 2)) (get_or (fields_of S (number_in code)) f 0))) (λ _. bad NoRule i))
-          (choose t (λ _. Ok (2 + code % 2 + 8 * (field_at structs (number_in code) f % 256))) (λ _. model.no_rule_told i))
-      there true e =
-          let b : get_or (fields_of S (number_in code)) f 0 < 256 = h.bytes (number_in code) f in
-          let k : field_at structs (number_in code) f ≡ get_or (fields_of S (number_in code)) f 0 = h.fields (number_in code) f (ltb-true _ _ e) in
-          let w : ToldRight (good (Word (mode_of (code % 2)) (get_or (fields_of S (number_in code)) f 0)))
-          (Ok (2 + mode_number (mode_of (code % 2)) + 8 * get_or (fields_of S (number_in code)) f 0)) = right_good (small_word b) in
-          rw (k, mod-eq_of_lt b) (rw (number_of_mode code) at w)
-      there false e = right_bad
+  field_there : (f code : ℕ) (t : Bool) → ltb f (length (fields_of S (number_in code))) ≡ t
+      → ToldRight
+      (choose t (λ _. good (Word (mode_of (code % 2)) (get_or (fields_of S (number_in code)) f 0))) (λ _. bad NoRule i))
+      (choose t (λ _. Ok (word_code code (field_type_at structs (number_in code) f))) (λ _. model.no_rule_told i))
+  field_there f code true e = rw (field_code h code (number_in code) f (ltb-true _ _ e)) (right_good (field_small h (mode_of (code % 2)) (number_in code) f))
+  field_there f code false e = right_bad
 
-      go : Shape code → ToldRight (definition.field_rule S m i f (unpacked code)) (model.field_told structs i f code)
-      go (shape_int e) = rw (kind_int code e, e) right_bad
-      go (shape_word e) = rw (kind_word_lem code e, e) right_bad
-      go (shape_struct e) = rw (kind_struct code e, e, h.count (number_in code)) (there (ltb f (length (fields_of S (number_in code)))) refl)
-      go (shape_array e) = rw (kind_array code e, e) right_bad
+  field_coded : (f : ℕ) {code : ℕ} {κ : Kind} → Coded code κ → ToldRight (definition.field_rule S m i f κ) (model.field_told structs i f code)
+  unfolding model.field_told
+  field_coded f (coded_int e) = rw e right_bad
+  field_coded f (coded_word e) = rw e right_bad
+  field_coded f {code} (coded_struct e) = rw (e, h.count (number_in code)) (field_there f code (ltb f (length (fields_of S (number_in code)))) refl)
+  field_coded f (coded_array e) = rw e right_bad
 
   pub field_told_right : (f : ℕ) {κ : Kind} → Small κ → ToldRight (definition.field_rule S m i f κ) (model.field_told structs i f (packed κ))
-  field_told_right f {κ} s = rw (round_trip s) at (field_code f (packed κ))
+  field_told_right f s = field_coded f (coded_kind s)
 
   -- a cast
   pub cast_told_right : {κ' : Kind} → Small κ' → (κ : Kind) → ToldRight (definition.one_rule S m i (cast κ') κ) (model.cast_told m i (packed κ'))
   unfolding model.cast_told
   cast_told_right {κ'} s κ =
-      let e : typing.castable m κ' ≡ model.castable_code m (packed κ') = ap (typing.castable m) (sym (round_trip s)) ∙ castable_same m (packed κ') in
-      rw e (right_if (model.castable_code m (packed κ')) κ' i (λ _. s))
+      rw (castable_same (coded_kind s) m) (right_if (model.castable_code m (packed κ')) κ' i (λ _. s))
 
   -- a sum
   no_sum : (t : Bool) → ToldRight (bad NoRule i) (choose t (λ _. model.no_rule_told i) (λ _. model.no_rule_told i))
@@ -213,7 +181,7 @@ module _ {S : Setting} {structs types : List ℕ} (h : SettingCoded S structs ty
   sum_told_right : {κ κ' : Kind} (role : Role) → Small κ → Small κ'
       → ToldRight (definition.sum_rule S m i role κ κ') (model.sum_told i (as_access role) (packed κ) (packed κ'))
   unfolding model.sum_told
-  sum_told_right {κ} {κ'} role s s' = rw (int_code s, int_code s', array_tag s) (sum_kinds role κ' s)
+  sum_told_right {κ} {κ'} role s s' = rw (int_code s, int_code s', array_tag (coded_kind s)) (sum_kinds role κ' s)
 
   -- what is done with two values
   pub act_told_right : {κ κ' : Kind} (role : Role) (o : Act) → Small κ → Small κ'

@@ -4,11 +4,10 @@ use Rattle.std.specs.Prelude.{Ok, Err}
 use mathlib.Core.Path.{◌≡◌, refl, sym}
 use mathlib.Core.Bool.{Bool, true, false, not}
 use mathlib.Core.List.{List}
-use Prim.Native.Nat.{ℕ, zero, suc, ◌+◌, ◌-◌, ◌<◌, ◌≤◌}
+use Prim.Native.Nat.{ℕ, zero, suc, ◌+◌, ◌-◌, ◌<◌}
 use native.Mathlib.Omega.{arith}
 use lib.ListN.{length}
 use borrow.Author.Tests.{ne_eqb}
-use Rattle.choice.specs.Choice.{choose_case}
 use Rattle.cells.specs.declared.Mode.{Mode}
 use Rattle.calculus.specs.Operations.{operation_of}
 use Rattle.calculus.specs.declared.Act.{Act}
@@ -17,7 +16,7 @@ use Rattle.calculus.specs.declared.Operation.{Operation}
 use Rattle.calculus.specs.declared.Operation.TheVariants as op
 use Rattle.calculus.specs.declared.Refusal.{Refusal}
 use Rattle.calculus.proofs.Same.{as_true}
-use Rattle.judge.specs.Tables.{node_number, operation_at}
+use Rattle.judge.specs.Rows.{node_number, operation_at}
 use Rattle.judge.specs.Parts.{parts_of, is_access, on_wholes, inner_mode, is_let, inner_lets, bound_with}
 use Rattle.judge.specs.Rules.{no_rule_told, leaf_told, one_told, act_told, two_told}
 use Rattle.judge.specs.Nodes.{Judging, judging, judge_node}
@@ -44,9 +43,6 @@ access_mode op.Read mode h = refl
 access_mode (op.Acts a) mode h = refl
 access_mode op.Field mode h = refl
 access_mode op.Unknown mode h = refl
-
-pub lets_most : (o : Operation) (lets : ℕ) → inner_lets o lets ≤ lets + 1
-lets_most o lets = choose_case (λ n. n ≤ lets + 1) (is_let o) (λ _. lets + 1) (λ _. lets) (omega arith) (omega arith)
 
 -- what acts on two wholes has two parts, both in the mode and inside the lets around it
 pub record Wholes (o : Operation) : Type 0 where

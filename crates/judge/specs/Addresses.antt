@@ -1,7 +1,7 @@
 -- Finding addresses in the cell table: a guess and the search by halves, and consecutive words by one comparison.
 use Rattle.std.specs.Prelude.{ℕ, zero, suc, ◌+◌, ◌-◌, ◌/◌, Bool, false, List, Option, Some, None, eqb, ltb, leb, length}
 use Rattle.choice.specs.Choice.{choose}
-use Rattle.judge.specs.Tables.{entry_at}
+use Rattle.judge.specs.Rows.{entry_at}
 
 abbrev pub middle : ℕ → ℕ → ℕ
 middle low high = low + (high - low) / 2

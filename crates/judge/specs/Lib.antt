@@ -3,7 +3,7 @@
 pub mod Premises
 pub mod Script
 -- Models of the code: each function's over lists.
-pub mod Tables
+pub mod Rows
 pub mod Addresses
 pub mod Marks
 pub mod Literals

@@ -1,11 +1,11 @@
 -- The literal check as the code goes about it: a literal's words are looked for and marked, what was marked is looked at in turn, and
 -- the pass ends at the first literal that is off.
-use Rattle.std.specs.Prelude.{ℕ, zero, suc, ◌+◌, ◌-◌, ◌/◌, ◌%◌, Bool, true, false, List, Option, Some, None, eqb, ltb, leb, length, get_or, set, replicate}
+use Rattle.std.specs.Prelude.{ℕ, zero, suc, ◌+◌, ◌-◌, ◌/◌, Bool, true, false, List, Option, Some, None, eqb, ltb, leb, length, get_or, set, replicate}
 use Rattle.choice.specs.Choice.{choose}
-use Rattle.cells.specs.Code.{number_in}
 use Rattle.calculus.specs.declared.Operation.{Operation}
 use Rattle.calculus.specs.declared.Operation.TheVariants as op
-use Rattle.judge.specs.Tables.{node_number, operation_at, entry_at, field_at, code_of, tag_in, size_of}
+use Rattle.tables.specs.Kinds.{code_checked, code_tag, size_at, type_code_at, word_type_at}
+use Rattle.judge.specs.Rows.{node_number, operation_at, entry_at}
 use Rattle.judge.specs.Addresses.{covered}
 use Rattle.judge.specs.Marks.{Seen, seen, alone, marked}
 
@@ -26,12 +26,11 @@ then_look (off marks queue) go = off marks queue
 -- how many words a literal needs: those that its target covers, if it is a checked pointer other than 0
 unfoldable pub span : (structs : List ℕ) (value code : ℕ) → ℕ
 span structs value code =
-    choose (eqb value 0) (λ _. 0) λ _. choose (eqb (code % 2) 0) (λ _. size_of structs code) (λ _. 0)
+    choose (eqb value 0) (λ _. 0) λ _. choose (code_checked code) (λ _. size_at structs code) (λ _. 0)
 
 -- the code that a pointer's i-th word has to have
-unfoldable pub claim : (structs types : List ℕ) (code i : ℕ) → ℕ
-claim structs types code i =
-    choose (eqb (tag_in code) 2) (λ _. code_of types (field_at structs (number_in code) i)) (λ _. code_of types (number_in code))
+abbrev pub claim : (structs types : List ℕ) (code i : ℕ) → ℕ
+claim structs types code i = type_code_at types (word_type_at structs code i)
 
 abbrev pub is_literal : Operation → Bool
 is_literal op.Literal = true
@@ -84,7 +83,7 @@ module _ (structs types cells : List ℕ) where
   -- `count` entries from `first` on are the words that a pointer needs: fields have each a code of its own, all else is alike
   abbrev pub look_words : (code first count : ℕ) → Seen → Looking
   look_words code first count s =
-      choose (eqb (tag_in code) 2)
+      choose (eqb (code_tag code) 2)
       (λ _. look_fields code first count 0 s)
       (λ _. look_alike cells (claim structs types code 0) count count first s)
 

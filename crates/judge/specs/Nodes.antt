@@ -4,7 +4,7 @@ use Rattle.choice.specs.Choice.{choose}
 use Rattle.cells.specs.declared.Mode.{Mode}
 use Rattle.calculus.specs.declared.Operation.{Operation}
 use Rattle.calculus.specs.declared.Refusal.{Refusal}
-use Rattle.judge.specs.Tables.{node_number, operation_at}
+use Rattle.judge.specs.Rows.{node_number, operation_at}
 use Rattle.judge.specs.Parts.{parts_of, is_access, inner_mode, inner_lets, bound_with}
 use Rattle.judge.specs.Rules.{no_rule_told, leaf_told, one_told, two_told}
 

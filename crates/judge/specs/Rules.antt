@@ -1,5 +1,5 @@
 -- The typing rules over codes, as the code has them: the type of node i from those of its parts. `mode` is that of the code around it.
-use Rattle.std.specs.Prelude.{ℕ, ◌+◌, ◌*◌, ◌-◌, ◌%◌, Bool, true, List, Result, Ok, Err, eqb, ltb, get_or}
+use Rattle.std.specs.Prelude.{ℕ, ◌-◌, ◌%◌, Bool, true, not, List, Result, Ok, Err, eqb, ltb, get_or}
 use Rattle.choice.specs.Choice.{choose, both, either}
 use Rattle.cells.specs.Code.{number_in}
 use Rattle.cells.specs.declared.Mode.{Mode}
@@ -10,7 +10,8 @@ use Rattle.calculus.specs.declared.Operation.{Operation}
 use Rattle.calculus.specs.declared.Operation.TheVariants as op
 use Rattle.calculus.specs.declared.Refusal.{Refusal}
 use Rattle.calculus.specs.declared.Fault.TheVariants.{NoRule, IllTyped}
-use Rattle.judge.specs.Tables.{node_number, field_at, code_of, tag_in, size_of}
+use Rattle.tables.specs.Kinds.{code_checked, code_tag, field_count_at, field_type_at, size_at, type_code_at, word_code}
+use Rattle.judge.specs.Rows.{node_number}
 
 abbrev pub no_rule_told : ℕ → Result ℕ Refusal
 no_rule_told i = Err (record { fault = NoRule; place = i })
@@ -25,27 +26,27 @@ then_told (Err r) go = Err r
 
 -- "An unchecked pointer only in unchecked mode"
 abbrev pub follows_code : Mode → ℕ → Bool
-follows_code Checked code = eqb (code % 2) 0
+follows_code Checked code = code_checked code
 follows_code Unchecked code = true
 
 -- "in checked mode not a checked pointer"
 abbrev pub castable_code : Mode → ℕ → Bool
-castable_code Checked code = either (eqb (tag_in code) 0) (eqb (code % 2) 1)
+castable_code Checked code = either (eqb (code_tag code) 0) (not (code_checked code))
 castable_code Unchecked code = true
 
 -- an access through a pointer to a word (tag 1) or an array (tag 3)
 unfoldable pub access_told : (types : List ℕ) (mode : Mode) (i code : ℕ) → Result ℕ Refusal
 access_told types mode i code =
-    choose (eqb (tag_in code % 2) 1)
-    (λ _. choose (follows_code mode code) (λ _. Ok (code_of types (number_in code))) (λ _. no_rule_told i))
+    choose (eqb (code_tag code % 2) 1)
+    (λ _. choose (follows_code mode code) (λ _. Ok (type_code_at types (number_in code))) (λ _. no_rule_told i))
     (λ _. no_rule_told i)
 
 -- a field address: a pointer to the field's type, of the same mode
 unfoldable pub field_told : (structs : List ℕ) (i field code : ℕ) → Result ℕ Refusal
 field_told structs i field code =
-    choose (eqb (tag_in code) 2)
-    (λ _. choose (ltb field (get_or structs (17 * number_in code) 0))
-    (λ _. Ok (2 + code % 2 + 8 * (field_at structs (number_in code) field % 256)))
+    choose (eqb (code_tag code) 2)
+    (λ _. choose (ltb field (field_count_at structs (number_in code)))
+    (λ _. Ok (word_code code (field_type_at structs (number_in code) field)))
     (λ _. no_rule_told i))
     (λ _. no_rule_told i)
 
@@ -73,7 +74,7 @@ assign_told types mode i x y =
 
 -- what the left side of a sum may be: an int; under an access also a pointer to an array (tag 3)
 abbrev pub summable : (access : Bool) (x : ℕ) → Bool
-summable access x = either (eqb x 1) (both access (eqb (tag_in x) 3))
+summable access x = either (eqb x 1) (both access (eqb (code_tag x) 3))
 
 -- "both int, result int"; under an access the result is the left side's type, be it int or an array pointer
 unfoldable pub sum_told : (i : ℕ) (access : Bool) (x y : ℕ) → Result ℕ Refusal
@@ -108,7 +109,7 @@ unfoldable pub variable_told : (bound : List ℕ) (lets i out : ℕ) → Result 
 variable_told bound lets i out = choose (ltb out lets) (λ _. Ok (get_or bound (lets - 1 - out) 0)) (λ _. no_rule_told i)
 
 unfoldable pub malloc_told : (structs : List ℕ) (i code : ℕ) → Result ℕ Refusal
-malloc_told structs i code = choose (ltb 0 (size_of structs code)) (λ _. Ok code) (λ _. no_rule_told i)
+malloc_told structs i code = choose (ltb 0 (size_at structs code)) (λ _. Ok code) (λ _. no_rule_told i)
 
 module _ (bound structs nodes : List ℕ) (first lets i : ℕ) where
   -- a node without parts

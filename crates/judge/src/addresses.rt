@@ -2,7 +2,7 @@
 ghost use Rattle.std.specs.Prelude.{◌+◌, ◌<◌, ◌-◌, ◌≡◌};
 ghost use Rattle.judge.specs.Addresses.{lowest_from, place, present, covered};
 
-use crate::tables::{beyond, entry, index, wide};
+use crate::rows::entry;
 
 // The first of n entries whose address is at least this one, n if there is none.
 fn lowest_from(cells: &[u64], n: usize, address: u64) -> usize
@@ -23,10 +23,11 @@ fn lowest_from(cells: &[u64], n: usize, address: u64) -> usize
 
 // The entry with this address, or where it would stand. In a heap without gaps the cell at address a is entry a - 1: that one is tried
 // first, so that only other heaps pay for a search.
+#[tactic(auto, unfolding(crate::specs::Addresses::place))]
 fn place(cells: &[u64], n: usize, address: u64) -> usize
     ensures { result ≡ place cells.now n address }
 {
-    let guess = index(beyond(1, address));
+    let guess = address.saturating_sub(1) as usize;
     if entry(cells, guess, 0) == address {
         return guess;
     }
@@ -35,30 +36,22 @@ fn place(cells: &[u64], n: usize, address: u64) -> usize
 
 // Whether entry j has this address and the `more` words behind it are present: the entry that many further on then has an address
 // that much higher.
+#[tactic(auto, unfolding(crate::specs::Addresses::present))]
 fn present(cells: &[u64], n: usize, j: usize, address: u64, more: usize) -> bool
     ensures { result ≡ present cells.now n j address more }
 {
-    if n <= j {
-        return false;
-    }
-    if n - j <= more {
-        return false;
-    }
-    if entry(cells, j, 0) == address {
-        return beyond(address, entry(cells, j + more, 0)) == wide(more);
-    }
-    false
+    j < n
+        && more < n - j
+        && entry(cells, j, 0) == address
+        && entry(cells, j + more, 0).saturating_sub(address) == more as u64
 }
 
 // The entry of the first of the words from an address on, `more` behind the first, if they are all present.
+#[tactic(auto, unfolding(crate::specs::Addresses::covered))]
 pub fn covered(cells: &[u64], address: u64, more: usize) -> Option<usize>
     ensures { result ≡ covered cells.now address more }
 {
     let n = cells.len() / 3;
     let j = place(cells, n, address);
-    if present(cells, n, j, address, more) {
-        Some(j)
-    } else {
-        None
-    }
+    present(cells, n, j, address, more).then_some(j)
 }

@@ -13,8 +13,8 @@ mod literals;
 mod marks;
 mod nodes;
 mod parts;
+mod rows;
 mod rules;
-mod tables;
 
 // The verdict on the script in the lent tables: its type, or the fault with the number of the node that has it. `marks` has a number for each entry of the cell table, `queue` as many, `bound` one for each
 // let that the expression nests.

@@ -6,18 +6,17 @@ ghost use Rattle.judge.specs.Literals.{span, claim, look_fields, look_alike, loo
 
 use crate::addresses::covered;
 use crate::marks::{mark, mark_at, put_mark, wipe};
-use crate::tables::{entry, field_at, index, operation_at, row, size_of, type_code, wide};
+use crate::rows::{entry, operation_at, row};
 use calculus::Operation;
 use cells::word;
+use tables::{is_checked, size_of, tag_of, type_code, word_type};
 
 // How many words a literal needs: those that its target covers, if it is a checked pointer other than 0.
+#[tactic(auto, unfolding(crate::specs::Literals::span))]
 fn span(structs: &[u64], value: u64, code: u64) -> usize
     ensures { result ≡ span structs.now value code }
 {
-    if value == 0 {
-        return 0;
-    }
-    if code % 2 == 0 {
+    if value != 0 && is_checked(code) {
         size_of(structs, code)
     } else {
         0
@@ -28,11 +27,7 @@ fn span(structs: &[u64], value: u64, code: u64) -> usize
 fn claim(structs: &[u64], types: &[u64], code: u64, i: usize) -> u64
     ensures { result ≡ claim structs.now types.now code i }
 {
-    let of = index(code / 8 % 256);
-    if code % 8 / 2 == 2 {
-        return type_code(types, index(field_at(structs, of, i)));
-    }
-    type_code(types, of)
+    type_code(types, word_type(structs, code, i))
 }
 
 // `count` entries from `first` on have the codes that a pointer to a struct claims: then they are marked. Answers where the queue then
@@ -90,19 +85,17 @@ fn look_alike(
         if entry(cells, j, 2) != code {
             return None;
         }
-        let known = mark_at(marks, j);
+        let known = usize::from(mark_at(marks, j));
         if known == 0 {
-            end = mark(marks, queue, end, j, code, wide(left));
+            end = mark(marks, queue, end, j, code, left as u16);
             j += 1;
             left -= 1;
+        } else if left <= known {
+            return Some(end);
         } else {
-            if wide(left) <= known {
-                return Some(end);
-            }
-            put_mark(marks, j, wide(left));
-            let far = index(known);
-            j += far;
-            left -= far;
+            put_mark(marks, j, left as u16);
+            j += known;
+            left -= known;
         }
     }
     Some(end)
@@ -127,7 +120,7 @@ fn look_at(
         return Some(tail);
     }
     let first = covered(cells, value, needed - 1)?;
-    if code % 8 / 2 == 2 {
+    if tag_of(code) == 2 {
         return look_fields(
             marks, queue, structs, types, cells, tail, code, first, needed,
         );
@@ -161,7 +154,7 @@ fn literal_look(
         if next <= head {
             return Some(next);
         }
-        let j = index(word(queue, head));
+        let j = word(queue, head) as usize;
         held = entry(cells, j, 1);
         kind = entry(cells, j, 2);
         end = next;
@@ -172,21 +165,11 @@ fn literal_look(
 fn is_literal(operation: Operation) -> bool
     ensures { result ≡ is_literal operation }
 {
-    match operation {
-        Operation::Literal => true,
-        Operation::Variable => false,
-        Operation::Let => false,
-        Operation::Malloc => false,
-        Operation::Unchecked => false,
-        Operation::Cast => false,
-        Operation::Read => false,
-        Operation::Acts(_) => false,
-        Operation::Field => false,
-        Operation::Unknown => false,
-    }
+    matches!(operation, Operation::Literal)
 }
 
 // Node i, if it is a literal.
+#[tactic(auto, unfolding(crate::specs::Literals::node_look))]
 fn node_look(
     marks: &mut [u16],
     queue: &mut [u64],

@@ -3,8 +3,8 @@ ghost use Rattle.std.specs.Prelude.{◌+◌, ◌<◌, ◌^◌, ◌≡◌, true, 
 ghost use Rattle.judge.specs.Nodes.{judging, judge_node};
 
 use crate::parts::{bind_kind, inner_lets, inner_mode, is_access, on_wholes, parts};
+use crate::rows::{operation_at, row};
 use crate::rules::{leaf_told, no_rule, one_told, two_told};
-use crate::tables::{index, operation_at, row};
 use calculus::Refusal;
 use cells::Mode;
 
@@ -45,7 +45,7 @@ pub fn judge_node(
         return one_told(structs, types, nodes, mode, i, operation, x);
     }
     bind_kind(bound, operation, lets, x);
-    let second = index(row(nodes, i, 3));
+    let second = row(nodes, i, 3) as usize;
     let deep = inner_lets(operation, lets);
     let y = judge_node(bound, rest, structs, types, nodes, bad, deep, mode, second)?;
     two_told(types, mode, i, false, operation, x, y)
@@ -75,7 +75,7 @@ fn judge_access(
     if on_wholes(operation) {
         let rest = left - 1;
         let x = judge_node(bound, rest, structs, types, nodes, bad, lets, mode, i + 1)?;
-        let second = index(row(nodes, i, 3));
+        let second = row(nodes, i, 3) as usize;
         let y = judge_node(bound, rest, structs, types, nodes, bad, lets, mode, second)?;
         return two_told(types, mode, i, true, operation, x, y);
     }

@@ -11,26 +11,9 @@ pub fn parts(operation: Operation) -> u64
     ensures { result ≡ parts_of operation }
 {
     match operation {
-        Operation::Literal => 0,
-        Operation::Variable => 0,
-        Operation::Let => 2,
-        Operation::Malloc => 0,
-        Operation::Unchecked => 1,
-        Operation::Cast => 1,
-        Operation::Read => 1,
-        Operation::Acts(_) => 2,
-        Operation::Field => 1,
-        Operation::Unknown => 0,
-    }
-}
-
-// Whether the first of two values is judged as the pointer of an access.
-fn act_access(act: Act) -> bool
-    ensures { result ≡ as_access (act_role act) }
-{
-    match act {
-        Act::Assign => true,
-        Act::Sum => false,
+        Operation::Let | Operation::Acts(_) => 2,
+        Operation::Unchecked | Operation::Cast | Operation::Read | Operation::Field => 1,
+        _ => 0,
     }
 }
 
@@ -38,36 +21,14 @@ fn act_access(act: Act) -> bool
 pub fn is_access(operation: Operation) -> bool
     ensures { result ≡ is_access operation }
 {
-    match operation {
-        Operation::Literal => false,
-        Operation::Variable => false,
-        Operation::Let => false,
-        Operation::Malloc => false,
-        Operation::Unchecked => false,
-        Operation::Cast => false,
-        Operation::Read => true,
-        Operation::Acts(act) => act_access(act),
-        Operation::Field => false,
-        Operation::Unknown => false,
-    }
+    matches!(operation, Operation::Read | Operation::Acts(Act::Assign))
 }
 
 // Whether a node acts on two parts that are judged each as a whole: then it may differ as the pointer of an access.
 pub fn on_wholes(operation: Operation) -> bool
     ensures { result ≡ on_wholes operation }
 {
-    match operation {
-        Operation::Literal => false,
-        Operation::Variable => false,
-        Operation::Let => false,
-        Operation::Malloc => false,
-        Operation::Unchecked => false,
-        Operation::Cast => false,
-        Operation::Read => false,
-        Operation::Acts(act) => !act_access(act),
-        Operation::Field => false,
-        Operation::Unknown => false,
-    }
+    matches!(operation, Operation::Acts(Act::Sum))
 }
 
 // The mode of a node's first part.
@@ -75,34 +36,15 @@ pub fn inner_mode(operation: Operation, mode: Mode) -> Mode
     ensures { result ≡ inner_mode operation mode }
 {
     match operation {
-        Operation::Literal => mode,
-        Operation::Variable => mode,
-        Operation::Let => mode,
-        Operation::Malloc => mode,
         Operation::Unchecked => Mode::Unchecked,
-        Operation::Cast => mode,
-        Operation::Read => mode,
-        Operation::Acts(_) => mode,
-        Operation::Field => mode,
-        Operation::Unknown => mode,
+        _ => mode,
     }
 }
 
 fn is_let(operation: Operation) -> bool
     ensures { result ≡ is_let operation }
 {
-    match operation {
-        Operation::Literal => false,
-        Operation::Variable => false,
-        Operation::Let => true,
-        Operation::Malloc => false,
-        Operation::Unchecked => false,
-        Operation::Cast => false,
-        Operation::Read => false,
-        Operation::Acts(_) => false,
-        Operation::Field => false,
-        Operation::Unknown => false,
-    }
+    matches!(operation, Operation::Let)
 }
 
 // How many lets are around a node's second part.

@@ -4,9 +4,12 @@ ghost use Rattle.judge.specs.Rules.{no_rule_told, ill_typed, follows_code, casta
 ghost use Rattle.judge.specs.Rules.{assign_told, summable, sum_told, act_told, two_told};
 ghost use Rattle.judge.specs.Rules.{literal_told, variable_told, malloc_told, leaf_told};
 
-use crate::tables::{field_at, index, row, size_of, type_code, wide};
+use crate::rows::row;
 use calculus::{Act, Fault, Operation, Refusal};
 use cells::{Mode, word};
+use tables::{
+    field_count, field_type, is_checked, number_of, size_of, tag_of, type_code, word_code,
+};
 
 // No typing rule fits node i.
 pub fn no_rule(i: usize) -> Result<u64, Refusal>
@@ -33,7 +36,7 @@ fn follows_code(mode: Mode, code: u64) -> bool
     ensures { result ≡ follows_code mode code }
 {
     match mode {
-        Mode::Checked => code % 2 == 0,
+        Mode::Checked => is_checked(code),
         Mode::Unchecked => true,
     }
 }
@@ -43,42 +46,37 @@ fn castable_code(mode: Mode, code: u64) -> bool
     ensures { result ≡ castable_code mode code }
 {
     match mode {
-        Mode::Checked => {
-            if code % 8 / 2 == 0 {
-                return true;
-            }
-            code % 2 == 1
-        }
+        Mode::Checked => tag_of(code) == 0 || !is_checked(code),
         Mode::Unchecked => true,
     }
 }
 
 // An access through a pointer to a word or an array: the word or element type.
+#[tactic(auto, unfolding(crate::specs::Rules::access_told))]
 fn access_told(types: &[u64], mode: Mode, i: usize, code: u64) -> Result<u64, Refusal>
     ensures { result ≡ access_told types.now mode i code }
 {
-    if code % 8 / 2 % 2 == 1 {
-        if follows_code(mode, code) {
-            return Ok(type_code(types, index(code / 8 % 256)));
-        }
+    if tag_of(code) % 2 == 1 && follows_code(mode, code) {
+        return Ok(type_code(types, number_of(code)));
     }
     no_rule(i)
 }
 
 // A field address: the pointer's mode stays.
+#[tactic(auto, unfolding(crate::specs::Rules::field_told))]
 fn field_told(structs: &[u64], i: usize, field: u64, code: u64) -> Result<u64, Refusal>
     ensures { result ≡ field_told structs.now i field code }
 {
-    let of = index(code / 8 % 256);
-    if code % 8 / 2 == 2 {
-        if field < word(structs, 17 * of) {
-            return Ok(2 + code % 2 + 8 * (field_at(structs, of, index(field)) % 256));
-        }
+    let of = number_of(code);
+    let f = field as usize;
+    if tag_of(code) == 2 && f < field_count(structs, of) {
+        return Ok(word_code(code, field_type(structs, of, f)));
     }
     no_rule(i)
 }
 
 // A cast to the type with this code.
+#[tactic(auto, unfolding(crate::specs::Rules::cast_told))]
 fn cast_told(mode: Mode, i: usize, code: u64) -> Result<u64, Refusal>
     ensures { result ≡ cast_told mode i code }
 {
@@ -110,6 +108,7 @@ pub fn one_told(
 }
 
 // "The value part has that type exactly."
+#[tactic(auto, unfolding(crate::specs::Rules::assign_told))]
 fn assign_told(types: &[u64], mode: Mode, i: usize, x: u64, y: u64) -> Result<u64, Refusal>
     ensures { result ≡ assign_told types.now mode i x y }
 {
@@ -124,24 +123,17 @@ fn assign_told(types: &[u64], mode: Mode, i: usize, x: u64, y: u64) -> Result<u6
 fn summable(access: bool, x: u64) -> bool
     ensures { result ≡ summable access x }
 {
-    if x == 1 {
-        return true;
-    }
-    if access {
-        return x % 8 / 2 == 3;
-    }
-    false
+    x == 1 || access && tag_of(x) == 3
 }
 
 // "Sum: both int, result int." Under an access "where the left is a pointer to an array and the right an int, the access has that array
 // pointer. Any other sum there is judged as a plain sum, at its own number."
+#[tactic(auto, unfolding(crate::specs::Rules::sum_told))]
 fn sum_told(i: usize, access: bool, x: u64, y: u64) -> Result<u64, Refusal>
     ensures { result ≡ sum_told i access x y }
 {
-    if y == 1 {
-        if summable(access, x) {
-            return Ok(x);
-        }
+    if y == 1 && summable(access, x) {
+        return Ok(x);
     }
     no_rule(i)
 }
@@ -203,6 +195,7 @@ pub fn leaf_told(
     }
 }
 
+#[tactic(auto, unfolding(crate::specs::Rules::literal_told))]
 fn literal_told(nodes: &[u64], bad: usize, i: usize) -> Result<u64, Refusal>
     ensures { result ≡ literal_told nodes.now bad i }
 {
@@ -212,16 +205,19 @@ fn literal_told(nodes: &[u64], bad: usize, i: usize) -> Result<u64, Refusal>
     ill_typed(i)
 }
 
+#[tactic(auto, unfolding(crate::specs::Rules::variable_told))]
 fn variable_told(bound: &[u64], lets: usize, i: usize, out: u64) -> Result<u64, Refusal>
     ensures { result ≡ variable_told bound.now lets i out }
 {
-    if out < wide(lets) {
-        return Ok(word(bound, lets - 1 - index(out)));
+    let out = out as usize;
+    if out < lets {
+        return Ok(word(bound, lets - 1 - out));
     }
     no_rule(i)
 }
 
 // "Malloc of a target of more than 0 words."
+#[tactic(auto, unfolding(crate::specs::Rules::malloc_told))]
 fn malloc_told(structs: &[u64], i: usize, code: u64) -> Result<u64, Refusal>
     ensures { result ≡ malloc_told structs.now i code }
 {

@@ -4,7 +4,7 @@ use mathlib.Core.List.{List}
 use Prim.Native.Nat.{ℕ, zero, suc, ◌+◌, ◌<◌, ◌≤◌}
 use native.Mathlib.Omega.{arith}
 use borrow.Author.Tests.{lt-ltb, le-ltb}
-use Rattle.judge.specs.Tables.{entry_at}
+use Rattle.judge.specs.Rows.{entry_at}
 use Rattle.judge.specs.Addresses.{middle, lowest_from}
 use Rattle.judge.proofs.addresses.lowest_from.Invariants.{Searching}
 use Rattle.judge.proofs.addresses.lowest_from.Goals as goal

@@ -5,7 +5,7 @@ use Prim.Native.Nat.{ℕ, zero, suc, ◌+◌, ◌<◌, ◌≤◌}
 use native.Mathlib.Omega.{arith}
 use lib.ListN.{length, get_or}
 use borrow.Author.Tests.{lt-ltb, le-ltb}
-use Rattle.judge.specs.Tables.{entry_at}
+use Rattle.judge.specs.Rows.{entry_at}
 use Rattle.judge.specs.Marks.{seen}
 use Rattle.judge.specs.Literals.{Looking, on, off, then_look, look_at, drain, literal_look}
 use Rattle.judge.proofs.Room.{look_after, ends_within}
@@ -31,11 +31,11 @@ module _ {structs types cells : List ℕ} {start : Looking} {marks₀ queue₀ m
     still = ends_within (seen marks queue end) (seen marks' queue' next) _ (look_after structs types cells _ _ (seen marks queue end)) e m.ends
 
     -- the entry that `head` is at is looked at next
-    turn : head < next → length marks' ≡ length marks → length queue' ≡ length queue → {w j held' kind' : ℕ} → w ≡ get_or queue' head 0 → j ≡ w
+    turn : head < next → length marks' ≡ length marks → length queue' ≡ length queue → {j held' kind' : ℕ} → j ≡ get_or queue' head 0
         → held' ≡ entry_at cells j 1 → kind' ≡ entry_at cells j 2
         → Draining structs types cells start marks₀ queue₀ marks' queue' (head + 1) next held' kind'
     unfolding drain
-    turn h k l {w} {j} {held'} {kind'} is_w is-j is_held_lem is_kind = go m.deep m.enough m.same
+    turn h k l {j} {held'} {kind'} is-j is_held_lem is_kind = go m.deep m.enough m.same
       where
         go : (deep : ℕ) → length queue ≤ head + deep
             → start ≡ then_look (look_at structs types cells held kind (seen marks queue end)) (drain structs types cells deep head)
@@ -46,7 +46,7 @@ module _ {structs types cells : List ℕ} {start : Looking} {marks₀ queue₀ m
               ends = still;
               deep = deep;
               enough = omega arith;
-              same = f ∙ rw (← e, lt-ltb head next h, is_held_lem, is_kind, is-j, is_w);
+              same = f ∙ rw (← e, lt-ltb head next h, is_held_lem, is_kind, is-j);
               long = k ∙ m.long;
               long_queue = l ∙ m.long_queue;
             }
@@ -62,4 +62,4 @@ pub loop-next-smaller : goal.loop-next-smaller
 loop-next-smaller c = let l = still c.loop-next.invariant (rw c.in_ok-next.was at c.look_at.ensures) in omega (arith, l, c.if-next-head.false, c.look_at.auto.queue, c.loop-next.invariant.long_queue)
 
 pub loop-next-preserved : goal.loop-next-preserved
-loop-next-preserved c = turn c.loop-next.invariant (rw c.in_ok-next.was at c.look_at.ensures) c.if-next-head.false c.look_at.auto.marks c.look_at.auto.queue c.word.ensures c.index-j.ensures c.entry-held.ensures c.entry-kind.ensures
+loop-next-preserved c = turn c.loop-next.invariant (rw c.in_ok-next.was at c.look_at.ensures) c.if-next-head.false c.look_at.auto.marks c.look_at.auto.queue c.word-j.ensures c.entry-held.ensures c.entry-kind.ensures

@@ -5,7 +5,7 @@ use Prim.Native.Nat.{ℕ, zero, suc, ◌+◌, ◌-◌, ◌<◌, ◌≤◌}
 use native.Mathlib.Omega.{arith}
 use lib.ListN.{length, length-set, get_or, set}
 use borrow.Author.Tests.{lt-ltb, le-ltb, lt-leb, le-leb, eq-eqb, ne_eqb}
-use Rattle.judge.specs.Tables.{entry_at}
+use Rattle.judge.specs.Rows.{entry_at}
 use Rattle.judge.specs.Marks.{seen, marked}
 use Rattle.judge.specs.Literals.{Looking, on, off, look_alike}
 use Rattle.judge.proofs.literals.look_alike.Invariants.{Passing}
@@ -30,36 +30,36 @@ module _ {cells : List ℕ} {code stop : ℕ} {start : Looking} {marks₀ queue�
     stops n = sym (opened ∙ rw (lt-ltb 0 left h, ← is_e, ne_eqb e code n))
 
     module _ (q : e ≡ code) {known : ℕ} (is_Known : known ≡ get_or marks j 0) where
-      new : known ≡ 0 → {marks' queue' : List ℕ} {end' w : ℕ} → w ≡ left → seen marks' queue' end' ≡ marked code w j (seen marks queue end)
+      new : known ≡ 0 → {marks' queue' : List ℕ} {end' : ℕ} → seen marks' queue' end' ≡ marked code left j (seen marks queue end)
           → length marks' ≡ length marks → length queue' ≡ length queue
           → Passing cells code stop start marks₀ queue₀ marks' queue' end' (j + 1) (left - 1)
       unfolding look_alike
-      new z is_w is k l =
+      new z is k l =
           record {
             far = omega (arith, m.far);
             deep = m.deep - 1;
             enough = omega (arith, m.enough);
             small = omega (arith, m.small);
-            same = opened ∙ rw (lt-ltb 0 left h, ← is_e, eq-eqb e code q, ← is_Known, z, ← is_w, ← is);
+            same = opened ∙ rw (lt-ltb 0 left h, ← is_e, eq-eqb e code q, ← is_Known, z, ← is);
             long = k ∙ m.long;
             long_queue = l ∙ m.long_queue;
           }
 
-      module _ (n : known ≡ 0 → ⊥) {w : ℕ} (is_w : w ≡ left) where
-        rest_known : w ≤ known → on (seen marks queue end) ≡ start
+      module _ (n : known ≡ 0 → ⊥) where
+        rest_known : left ≤ known → on (seen marks queue end) ≡ start
         unfolding look_alike
-        rest_known a = sym (opened ∙ rw (lt-ltb 0 left h, ← is_e, eq-eqb e code q, ← is_Known, ne_eqb known 0 n, ← is_w, le-leb w known a))
+        rest_known a = sym (opened ∙ rw (lt-ltb 0 left h, ← is_e, eq-eqb e code q, ← is_Known, ne_eqb known 0 n, le-leb left known a))
 
-        raised : known < w → {marks' : List ℕ} {v far : ℕ} → v ≡ left → marks' ≡ set marks j v → far ≡ known
-            → Passing cells code stop start marks₀ queue₀ marks' queue end (j + far) (left - far)
+        raised : known < left → {marks' : List ℕ} → marks' ≡ set marks j left
+            → Passing cells code stop start marks₀ queue₀ marks' queue end (j + known) (left - known)
         unfolding look_alike
-        raised a is-v is is-far =
+        raised a is =
             record {
               far = omega (arith, m.far);
               deep = m.deep - 1;
               enough = omega (arith, m.enough, n);
               small = omega (arith, m.small);
-              same = opened ∙ rw (lt-ltb 0 left h, ← is_e, eq-eqb e code q, ← is_Known, ne_eqb known 0 n, ← is_w, lt-leb w known a, is-far, is, is-v, is_w);
+              same = opened ∙ rw (lt-ltb 0 left h, ← is_e, eq-eqb e code q, ← is_Known, ne_eqb known 0 n, lt-leb left known a, is);
               long = rw is (simp length-set m.long);
               long_queue = m.long_queue;
             }
@@ -68,13 +68,13 @@ pub returns-then-entry-code : goal.returns-then-entry-code
 returns-then-entry-code c = stops c.loop-left.invariant c.loop-left-test.true c.entry.ensures c.if-entry-code.true
 
 pub loop-left-preserved-then-known-eq0 : goal.loop-left-preserved-then-known-eq0
-loop-left-preserved-then-known-eq0 c = new c.loop-left.invariant c.loop-left-test.true c.entry.ensures c.if-entry-code.false c.mark_at-known.ensures c.if-known-eq0.true c.wide.ensures c.mark-end.ensures c.mark-end.auto.marks c.mark-end.auto.queue
+loop-left-preserved-then-known-eq0 c = new c.loop-left.invariant c.loop-left-test.true c.entry.ensures c.if-entry-code.false (c.from-known.ensures ∙ c.mark_at.ensures) c.if-known-eq0.true c.mark-end.ensures c.mark-end.auto.marks c.mark-end.auto.queue
 
-pub returns-then-wide-known : goal.returns-then-wide-known
-returns-then-wide-known c = rest_known c.loop-left.invariant c.loop-left-test.true c.entry.ensures c.if-entry-code.false c.mark_at-known.ensures c.if-known-eq0.false c.wide-else-known-eq0.ensures c.if-wide-known.true
+pub returns-then-left-known : goal.returns-then-left-known
+returns-then-left-known c = rest_known c.loop-left.invariant c.loop-left-test.true c.entry.ensures c.if-entry-code.false (c.from-known.ensures ∙ c.mark_at.ensures) c.if-known-eq0.false c.if-left-known.true
 
 pub loop-left-preserved : goal.loop-left-preserved
-loop-left-preserved c = raised c.loop-left.invariant c.loop-left-test.true c.entry.ensures c.if-entry-code.false c.mark_at-known.ensures c.if-known-eq0.false c.wide-else-known-eq0.ensures c.if-wide-known.false c.wide-else-known-eq0-2.ensures c.put_mark.ensures c.index-far.ensures
+loop-left-preserved c = raised c.loop-left.invariant c.loop-left-test.true c.entry.ensures c.if-entry-code.false (c.from-known.ensures ∙ c.mark_at.ensures) c.if-known-eq0.false c.if-left-known.false c.put_mark.ensures
 
 pub returns : goal.returns
 returns c = done c.loop-left.invariant c.loop-left-test.false

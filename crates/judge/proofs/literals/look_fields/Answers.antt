@@ -5,7 +5,7 @@ use Prim.Native.Nat.{ℕ, suc, ◌+◌, ◌-◌, ◌<◌, ◌≤◌}
 use native.Mathlib.Omega.{arith}
 use lib.ListN.{length}
 use borrow.Author.Tests.{eq-eqb, ne_eqb}
-use Rattle.judge.specs.Tables.{entry_at}
+use Rattle.judge.specs.Rows.{entry_at}
 use Rattle.judge.specs.Marks.{seen, alone, marked}
 use Rattle.judge.specs.Literals.{Looking, on, off, claim, look_fields}
 use Rattle.judge.proofs.literals.look_fields.Invariants.{Passing}

@@ -6,7 +6,7 @@ use Prim.Native.Nat.{ℕ, ◌+◌, ◌-◌}
 use native.Mathlib.Omega.{arith}
 use Rattle.judge.specs.Nodes.{judging, judge_node}
 use Rattle.judge.specs.Parts.{is_access, inner_mode}
-use Rattle.judge.specs.Tables.{operation_at}
+use Rattle.judge.specs.Rows.{operation_at}
 use Rattle.judge.proofs.Turns.{has_row, wholes, wholes_row, none_remain, no_wholes, is_leaf, part_bad, is_one, second_bad, is_two, by_access, by_node, side_bad, other_bad, is_act}
 use Rattle.judge.proofs.nodes.+judging.Goals as goal
 use Rattle.judge.proofs.nodes.+judging.Goals.{judge_node-Joined-is_access, judge_node-then-is_access+in_ok-x, judge_node-else-is_access+in_ok-x-2}
@@ -40,12 +40,12 @@ judge_access-returns-in_err-x t c =
     rw (p.1, p.2) (side_bad _ _ _ _ _ _ _ _ _ c.if-left-eq0.false (wholes _ (rw (← c.operation_at-operation.ensures, ← c.on_wholes.ensures) c.if-on_wholes.true)) _ _ (rw c.in_err-x.was at c.judge_node.ensures))
 
 pub judge_access-returns-then-on_wholes : goal.judge_access-returns-then-on_wholes
-judge_access-returns-then-on_wholes t c = rw (c.two_told.ensures, c.operation_at-operation.ensures) (is_act _ _ _ _ _ _ _ _ _ c.if-left-eq0.false (wholes _ (rw (← c.operation_at-operation.ensures, ← c.on_wholes.ensures) c.if-on_wholes.true)) _ _ (rw c.in_ok-x.was at c.judge_node.ensures) _ _ (rw (c.in_ok-y.was, c.index-second.ensures, c.row.ensures) at c.judge_node-then-on_wholes.ensures))
+judge_access-returns-then-on_wholes t c = rw (c.two_told.ensures, c.operation_at-operation.ensures) (is_act _ _ _ _ _ _ _ _ _ c.if-left-eq0.false (wholes _ (rw (← c.operation_at-operation.ensures, ← c.on_wholes.ensures) c.if-on_wholes.true)) _ _ (rw c.in_ok-x.was at c.judge_node.ensures) _ _ (rw (c.in_ok-y.was, c.row-second.ensures) at c.judge_node-then-on_wholes.ensures))
 
 pub judge_access-returns-in_err-y : goal.judge_access-returns-in_err-y
 judge_access-returns-in_err-y t c =
     let p = err_from_is_err_and c.from_residual-in_err-y.result c.from_residual-in_err-y.ensures.1 in
-    rw (p.1, p.2) (other_bad _ _ _ _ _ _ _ _ _ c.if-left-eq0.false (wholes _ (rw (← c.operation_at-operation.ensures, ← c.on_wholes.ensures) c.if-on_wholes.true)) _ _ (rw c.in_ok-x.was at c.judge_node.ensures) _ _ (rw (c.in_err-y.was, c.index-second.ensures, c.row.ensures) at c.judge_node-then-on_wholes.ensures))
+    rw (p.1, p.2) (other_bad _ _ _ _ _ _ _ _ _ c.if-left-eq0.false (wholes _ (rw (← c.operation_at-operation.ensures, ← c.on_wholes.ensures) c.if-on_wholes.true)) _ _ (rw c.in_ok-x.was at c.judge_node.ensures) _ _ (rw (c.in_err-y.was, c.row-second.ensures) at c.judge_node-then-on_wholes.ensures))
 
 pub judge_access-returns : goal.judge_access-returns
 judge_access-returns t c = c.judge_node-2.ensures ∙ no_wholes _ _ _ _ _ _ _ _ _ (rw (← c.operation_at-operation.ensures, ← c.on_wholes.ensures) c.if-on_wholes.false)
@@ -80,9 +80,9 @@ judge_node-returns-then-count-eq1 t c =
 
 pub judge_node-returns : goal.judge_node-returns
 judge_node-returns t c =
-    rw (c.two_told.ensures, c.operation_at-operation.ensures) (is_two _ _ _ _ _ _ _ _ _ c.if-left-eq0.false (rw (c.parts-count.ensures, c.operation_at-operation.ensures) at c.if-count-eq0.false) _ _ (joined t (goal.at.judge_node-returns t c).Joined-is_access) (rw (c.parts-count.ensures, c.operation_at-operation.ensures) at c.if-count-eq1.false) _ _ (rw (c.in_ok-y.was, c.index-second.ensures, c.row.ensures, c.inner_lets-deep.ensures, c.bind_kind.ensures, c.operation_at-operation.ensures) at c.judge_node-2.ensures))
+    rw (c.two_told.ensures, c.operation_at-operation.ensures) (is_two _ _ _ _ _ _ _ _ _ c.if-left-eq0.false (rw (c.parts-count.ensures, c.operation_at-operation.ensures) at c.if-count-eq0.false) _ _ (joined t (goal.at.judge_node-returns t c).Joined-is_access) (rw (c.parts-count.ensures, c.operation_at-operation.ensures) at c.if-count-eq1.false) _ _ (rw (c.in_ok-y.was, c.row-second.ensures, c.inner_lets-deep.ensures, c.bind_kind.ensures, c.operation_at-operation.ensures) at c.judge_node-2.ensures))
 
 pub judge_node-returns-in_err-y : goal.judge_node-returns-in_err-y
 judge_node-returns-in_err-y t c =
     let p = err_from_is_err_and c.from_residual-in_err-y.result c.from_residual-in_err-y.ensures.1 in
-    rw (p.1, p.2) (second_bad _ _ _ _ _ _ _ _ _ c.if-left-eq0.false (rw (c.parts-count.ensures, c.operation_at-operation.ensures) at c.if-count-eq0.false) _ _ (joined t (goal.at.judge_node-returns-in_err-y t c).Joined-is_access) (rw (c.parts-count.ensures, c.operation_at-operation.ensures) at c.if-count-eq1.false) _ _ (rw (c.in_err-y.was, c.index-second.ensures, c.row.ensures, c.inner_lets-deep.ensures, c.bind_kind.ensures, c.operation_at-operation.ensures) at c.judge_node-2.ensures))
+    rw (p.1, p.2) (second_bad _ _ _ _ _ _ _ _ _ c.if-left-eq0.false (rw (c.parts-count.ensures, c.operation_at-operation.ensures) at c.if-count-eq0.false) _ _ (joined t (goal.at.judge_node-returns-in_err-y t c).Joined-is_access) (rw (c.parts-count.ensures, c.operation_at-operation.ensures) at c.if-count-eq1.false) _ _ (rw (c.in_err-y.was, c.row-second.ensures, c.inner_lets-deep.ensures, c.bind_kind.ensures, c.operation_at-operation.ensures) at c.judge_node-2.ensures))
