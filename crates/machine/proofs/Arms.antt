@@ -3,6 +3,7 @@ use Rattle.std.proofs.Common.{◌≡◌, ℕ, Bool, List, refl}
 use Rattle.calculus.specs.declared.Act.{Act}
 use Rattle.calculus.specs.declared.Operation.{Operation}
 use Rattle.calculus.specs.declared.Operation.TheVariants as op
+use Rattle.machine.specs.declared.Coded.{Coded}
 use Rattle.machine.specs.declared.State.{State}
 use Rattle.machine.specs.declared.Terms.{Terms}
 use Rattle.machine.specs.declared.Yield.TheVariants.{Blocked}
@@ -23,9 +24,9 @@ not_block (op.Acts a) x n = refl
 not_block op.Field x n = refl
 not_block op.Unknown x n = refl
 
-module _ (structs types : List ℕ) (terms : Terms) (ws frames bound : List ℕ) (s : State) (argument kind : ℕ) where
+module _ (structs types : List ℕ) (terms : Terms) (ws frames bound : List ℕ) (s : State) (at argument kind : ℕ) where
   pub not_leaf : (o : Operation) → (o ≡ op.Literal → ⊥) → (o ≡ op.Variable → ⊥) → (o ≡ op.Malloc → ⊥)
-      → entered structs types terms ws frames bound s o argument kind ≡ on_frames ws bound (first_part frames s o)
+      → entered structs types terms ws frames bound s at o argument kind ≡ on_frames ws bound (first_part frames s at o)
   unfolding entered
   not_leaf op.Literal l v m = absurd (l refl)
   not_leaf op.Variable l v m = absurd (v refl)
@@ -38,9 +39,9 @@ module _ (structs types : List ℕ) (terms : Terms) (ws frames bound : List ℕ)
   not_leaf op.Field l v m = refl
   not_leaf op.Unknown l v m = refl
 
-module _ (structs : List ℕ) (words : ℕ) (ws : List ℕ) (v code argument kind : ℕ) where
+module _ (structs : List ℕ) (words : ℕ) (ws : List ℕ) (v : Coded) (argument kind : ℕ) where
   pub not_single : (o : Operation) → (o ≡ op.Unchecked → ⊥) → (o ≡ op.Cast → ⊥) → (o ≡ op.Read → ⊥) → (o ≡ op.Field → ⊥)
-      → one_yield structs words ws v code o argument kind ≡ Blocked
+      → one_yield structs words ws v o argument kind ≡ Blocked
   unfolding one_yield
   not_single op.Literal u k r f = refl
   not_single op.Variable u k r f = refl

@@ -1,5 +1,5 @@
 -- Of the lent tables: a row that is not whole is not there; what was put is found again, and all else is as it was.
-use Rattle.std.proofs.Common.{◌≡◌, ℕ, zero, suc, ◌+◌, ◌*◌, ◌/◌, ◌<◌, ◌≤◌, Bool, true, false, ltb, leb, List, [], ◌∷◌, length, get_or, set, sym, refl, ◌∙◌, arith, length-set, get_or-set_other, get_or-set_same, le-ltb, lt-ltb}
+use Rattle.std.proofs.Common.{◌≡◌, ℕ, zero, suc, ◌+◌, ◌*◌, ◌/◌, ◌<◌, ◌≤◌, Bool, true, false, not, eqb, ltb, leb, Option, Some, None, List, [], ◌∷◌, length, get_or, set, sym, refl, ◌∙◌, arith, length-set, get_or-set_other, get_or-set_same, le-ltb, lt-ltb, ne_eqb}
 use native.Mathlib.Decide.{dec_lt}
 use lib.ListN.{get_or-eq_default}
 use Rattle.std.specs.Int.{from_bool}
@@ -13,10 +13,11 @@ use Rattle.calculus.specs.declared.Halt.{Halt}
 use Rattle.calculus.specs.declared.Operation.{Operation}
 use Rattle.calculus.specs.declared.Operation.TheVariants.{Literal}
 use Rattle.image.specs.Tabled.{Row}
+use Rattle.machine.specs.declared.Coded.{Coded}
 use Rattle.machine.specs.declared.State.{State}
 use Rattle.machine.specs.declared.Yield.{Yield}
 use Rattle.machine.specs.States.{Turn, over, one_more, first_in, more, halt, contracted, leaving, yielding, written, settled}
-use Rattle.machine.specs.Tables.{in_row, node, node_at, flagged, framed, kept}
+use Rattle.machine.specs.Tables.{in_row, node, node_at, frame, first_value, frame_at, framed, kept}
 
 -- ---- a row by the one test that finds it
 pub row_here : (t : List ℕ) (i j : ℕ) → i < length t / 4 → in_row t i j ≡ get_or t (4 * i + j) 0
@@ -70,14 +71,14 @@ pub framed_none : (t : List ℕ) (i node : ℕ) (inside : Bool) → length t / 4
 unfolding framed
 framed_none t i node inside l = rw (le-ltb i (length t / 4) l)
 
-pub kept_here : (t : List ℕ) (i value code : ℕ) → i < length t / 4
-    → kept t i value code ≡ set (set t (4 * i + 2) value) (4 * i + 3) code
+pub kept_here : (t : List ℕ) (i : ℕ) (v : Coded) → i < length t / 4
+    → kept t i v ≡ set (set t (4 * i + 2) v.value) (4 * i + 3) v.code
 unfolding kept
-kept_here t i value code l = rw (lt-ltb i (length t / 4) l)
+kept_here t i v l = rw (lt-ltb i (length t / 4) l)
 
-pub kept_none : (t : List ℕ) (i value code : ℕ) → length t / 4 ≤ i → kept t i value code ≡ t
+pub kept_none : (t : List ℕ) (i : ℕ) (v : Coded) → length t / 4 ≤ i → kept t i v ≡ t
 unfolding kept
-kept_none t i value code l = rw (le-ltb i (length t / 4) l)
+kept_none t i v l = rw (le-ltb i (length t / 4) l)
 
 -- before the end it does not matter what stands past it
 pub get_d_within : (t : List ℕ) (n a b : ℕ) → n < length t → get_or t n a ≡ get_or t n b
@@ -97,44 +98,44 @@ length_framed t i node inside =
     (simp length-set)
     refl
 
-pub length_kept : (t : List ℕ) (i value code : ℕ) → length (kept t i value code) ≡ length t
+pub length_kept : (t : List ℕ) (i : ℕ) (v : Coded) → length (kept t i v) ≡ length t
 unfolding kept
-length_kept t i value code =
+length_kept t i v =
     choose_case
     (λ (t' : List ℕ). length t' ≡ length t)
     (ltb i (length t / 4))
-    (λ _. set (set t (4 * i + 2) value) (4 * i + 3) code)
+    (λ _. set (set t (4 * i + 2) v.value) (4 * i + 3) v.code)
     (λ _. t)
     (simp length-set)
     refl
 
--- the four numbers of a row
-pub record Four (t : List ℕ) (i a b c d : ℕ) : Type 0 where
-  pub first_is : in_row t i 0 ≡ a
-  pub second_is : in_row t i 1 ≡ b
-  pub third_is : in_row t i 2 ≡ c
-  pub fourth_is : in_row t i 3 ≡ d
-
-pub flag_back : (b : Bool) → flagged (from_bool b) ≡ b
+-- a frame by the numbers of its row
+flag_back : (b : Bool) → not (eqb (from_bool b) 0) ≡ b
 flag_back true = refl
 flag_back false = refl
 
--- rows below h are as they were
-pub record SameBelow (h : ℕ) (t t' : List ℕ) : Type 0 where
-  pub row_same : (i j : ℕ) → i < h → j < 4 → in_row t' i j ≡ in_row t i j
+frame_of : (t : List ℕ) (i : ℕ) {a c d : ℕ} (b : Bool) → in_row t i 0 ≡ a → in_row t i 1 ≡ from_bool b → in_row t i 2 ≡ c → in_row t i 3 ≡ d
+    → frame_at t i ≡ frame a b (first_value c d)
+unfolding frame_at
+frame_of t i b e₀ e₁ e₂ e₃ = rw (e₀, e₁, e₂, e₃, flag_back)
 
-pub four_below : {h i a b c d : ℕ} {t t' : List ℕ} → SameBelow h t t' → i < h → Four t i a b c d → Four t' i a b c d
-four_below {i = i} s l f =
-    record {
-      first_is = s.row_same i 0 l (omega arith) ∙ f.first_is;
-      second_is = s.row_same i 1 l (omega arith) ∙ f.second_is;
-      third_is = s.row_same i 2 l (omega arith) ∙ f.third_is;
-      fourth_is = s.row_same i 3 l (omega arith) ∙ f.fourth_is;
-    }
+-- frames below h are as they were
+pub record SameBelow (h : ℕ) (t t' : List ℕ) : Type 0 where
+  pub frame_same : (i : ℕ) → i < h → frame_at t' i ≡ frame_at t i
 
 below : (t t' : List ℕ) (h : ℕ) → length t' ≡ length t → ((k : ℕ) → k < 4 * h → get_or t' k 0 ≡ get_or t k 0) → SameBelow h t t'
-unfolding in_row
-below t t' h e same = record { row_same = λ i j l m. rw (e, same (4 * i + j) (omega arith)) }
+unfolding frame_at in_row
+below t t' h e same =
+    record {
+      frame_same = λ i l.
+          rw (
+            e,
+            same (4 * i + 0) (omega arith),
+            same (4 * i + 1) (omega arith),
+            same (4 * i + 2) (omega arith),
+            same (4 * i + 3) (omega arith),
+          );
+    }
 
 -- the numbers of a frame are put one behind the other
 abbrev put₁ : List ℕ → (i node : ℕ) → List ℕ
@@ -164,61 +165,66 @@ module _ (t : List ℕ) (i node : ℕ) (inside : Bool) where
       let long = length_framed t i node inside in
       row_here (framed t i node inside) i j (omega arith) ∙ rw (framed_here t i node inside h)
 
-  pub four_framed : i < length t / 4 → Four (framed t i node inside) i node (from_bool inside) 0 0
-  four_framed h =
+  pub frame_put : i < length t / 4 → frame_at (framed t i node inside) i ≡ frame node inside None
+  frame_put h =
       let e : 4 * i + 0 ≡ 4 * i = omega arith in
-      record {
-        first_is = row_put_lem 0 h
-            ∙ rw e
-            (get_or-set_other (put₃ t i node inside) (4 * i + 3) (4 * i) 0 0 (omega arith)
-            ∙ get_or-set_other (put₂ t i node inside) (4 * i + 2) (4 * i) 0 0 (omega arith)
-            ∙ get_or-set_other (put₁ t i node) (4 * i + 1) (4 * i) (from_bool inside) 0 (omega arith)
-            ∙ get_or-set_same t (4 * i) node 0 (omega arith));
-        second_is = row_put_lem 1 h
-            ∙ get_or-set_other (put₃ t i node inside) (4 * i + 3) (4 * i + 1) 0 0 (omega arith)
-            ∙ get_or-set_other (put₂ t i node inside) (4 * i + 2) (4 * i + 1) 0 0 (omega arith)
-            ∙ get_or-set_same (put₁ t i node) (4 * i + 1) (from_bool inside) 0 (simp length-set (omega arith));
-        third_is = row_put_lem 2 h
-            ∙ get_or-set_other (put₃ t i node inside) (4 * i + 3) (4 * i + 2) 0 0 (omega arith)
-            ∙ get_or-set_same (put₂ t i node inside) (4 * i + 2) 0 0 (simp length-set (omega arith));
-        fourth_is = row_put_lem 3 h ∙ get_or-set_same (put₃ t i node inside) (4 * i + 3) 0 0 (simp length-set (omega arith));
-      }
+      frame_of (framed t i node inside) i inside
+      (row_put_lem 0 h
+      ∙ rw e
+      (get_or-set_other (put₃ t i node inside) (4 * i + 3) (4 * i) 0 0 (omega arith)
+      ∙ get_or-set_other (put₂ t i node inside) (4 * i + 2) (4 * i) 0 0 (omega arith)
+      ∙ get_or-set_other (put₁ t i node) (4 * i + 1) (4 * i) (from_bool inside) 0 (omega arith)
+      ∙ get_or-set_same t (4 * i) node 0 (omega arith)))
+      (row_put_lem 1 h
+      ∙ get_or-set_other (put₃ t i node inside) (4 * i + 3) (4 * i + 1) 0 0 (omega arith)
+      ∙ get_or-set_other (put₂ t i node inside) (4 * i + 2) (4 * i + 1) 0 0 (omega arith)
+      ∙ get_or-set_same (put₁ t i node) (4 * i + 1) (from_bool inside) 0 (simp length-set (omega arith)))
+      (row_put_lem 2 h
+      ∙ get_or-set_other (put₃ t i node inside) (4 * i + 3) (4 * i + 2) 0 0 (omega arith)
+      ∙ get_or-set_same (put₂ t i node inside) (4 * i + 2) 0 0 (simp length-set (omega arith)))
+      (row_put_lem 3 h ∙ get_or-set_same (put₃ t i node inside) (4 * i + 3) 0 0 (simp length-set (omega arith)))
 
-module _ (t : List ℕ) (i value code : ℕ) where
-  before_kept : (k : ℕ) → k < 4 * i + 2 → get_or (kept t i value code) k 0 ≡ get_or t k 0
+module _ (t : List ℕ) (i : ℕ) (v : Coded) where
+  before_kept : (k : ℕ) → k < 4 * i + 2 → get_or (kept t i v) k 0 ≡ get_or t k 0
   before_kept k l = go (dec_lt i (length t / 4))
     where
-      go : Dec (i < length t / 4) → get_or (kept t i value code) k 0 ≡ get_or t k 0
+      go : Dec (i < length t / 4) → get_or (kept t i v) k 0 ≡ get_or t k 0
       go (yes h) =
-          rw (kept_here t i value code h)
-          (get_or-set_other (set t (4 * i + 2) value) (4 * i + 3) k code 0 (omega arith)
-          ∙ get_or-set_other t (4 * i + 2) k value 0 (omega arith))
-      go (no n) = rw (kept_none t i value code (omega arith))
+          rw (kept_here t i v h)
+          (get_or-set_other (set t (4 * i + 2) v.value) (4 * i + 3) k v.code 0 (omega arith)
+          ∙ get_or-set_other t (4 * i + 2) k v.value 0 (omega arith))
+      go (no n) = rw (kept_none t i v (omega arith))
 
-  pub kept_below : SameBelow i t (kept t i value code)
-  kept_below = below t (kept t i value code) i (length_kept t i value code) (λ k l. before_kept k (omega arith))
+  pub kept_below : SameBelow i t (kept t i v)
+  kept_below = below t (kept t i v) i (length_kept t i v) (λ k l. before_kept k (omega arith))
 
   -- the node and its mode stay, and the value is found again
-  row_before : (j : ℕ) → j < 2 → in_row (kept t i value code) i j ≡ in_row t i j
+  row_before : (j : ℕ) → j < 2 → in_row (kept t i v) i j ≡ in_row t i j
   unfolding in_row
-  row_before j l = rw (length_kept t i value code, before_kept (4 * i + j) (omega arith))
+  row_before j l = rw (length_kept t i v, before_kept (4 * i + j) (omega arith))
 
   row_after : (j : ℕ) → i < length t / 4
-      → in_row (kept t i value code) i j ≡ get_or (set (set t (4 * i + 2) value) (4 * i + 3) code) (4 * i + j) 0
+      → in_row (kept t i v) i j ≡ get_or (set (set t (4 * i + 2) v.value) (4 * i + 3) v.code) (4 * i + j) 0
   row_after j h =
-      let long = length_kept t i value code in
-      row_here (kept t i value code) i j (omega arith) ∙ rw (kept_here t i value code h)
+      let long = length_kept t i v in
+      row_here (kept t i v) i j (omega arith) ∙ rw (kept_here t i v h)
 
-  pub four_kept : {node inside a b : ℕ} → i < length t / 4 → Four t i node inside a b → Four (kept t i value code) i node inside value code
-  four_kept h f =
-      record {
-        first_is = row_before 0 (omega arith) ∙ f.first_is;
-        second_is = row_before 1 (omega arith) ∙ f.second_is;
-        third_is = row_after 2 h
-            ∙ get_or-set_other (set t (4 * i + 2) value) (4 * i + 3) (4 * i + 2) code 0 (omega arith)
-            ∙ get_or-set_same t (4 * i + 2) value 0 (omega arith);
-        fourth_is = row_after 3 h ∙ get_or-set_same (set t (4 * i + 2) value) (4 * i + 3) code 0 (simp length-set (omega arith));
-      }
+  value_kept : i < length t / 4 → (v.code ≡ 0 → ⊥) → frame_at (kept t i v) i ≡ frame (frame_at t i).node (frame_at t i).inside (Some v)
+  unfolding frame_at
+  value_kept h n =
+      rw (
+        row_before 0 (omega arith),
+        row_before 1 (omega arith),
+        row_after 2 h
+        ∙ get_or-set_other (set t (4 * i + 2) v.value) (4 * i + 3) (4 * i + 2) v.code 0 (omega arith)
+        ∙ get_or-set_same t (4 * i + 2) v.value 0 (omega arith),
+        row_after 3 h ∙ get_or-set_same (set t (4 * i + 2) v.value) (4 * i + 3) v.code 0 (simp length-set (omega arith)),
+        ne_eqb v.code 0 n,
+      )
+
+  pub frame_kept : {node : ℕ} {inside : Bool} {d : Option Coded} → i < length t / 4 → (v.code ≡ 0 → ⊥) → frame_at t i ≡ frame node inside d
+      → frame_at (kept t i v) i ≡ frame node inside (Some v)
+  frame_kept h n e = value_kept h n ∙ rw e
 
 -- ---- bound values, in words
 pub record BoundWord (t : List ℕ) (a value code : ℕ) : Type 0 where

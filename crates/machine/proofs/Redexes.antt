@@ -27,11 +27,10 @@ use Rattle.calculus.specs.declared.Halt.TheVariants.{Null, Bounds}
 use Rattle.image.specs.Shape.{SmallOne, small_cast}
 use Rattle.image.specs.Tabled.{HeldStructs, one_operation, one_argument, one_kind}
 use Rattle.machine.specs.declared.Hint.{Hint}
-use Rattle.machine.specs.declared.State.{State}
 use Rattle.machine.specs.declared.Terms.{Terms}
 use Rattle.machine.specs.declared.Yield.{Yield}
 use Rattle.machine.specs.declared.Yield.TheVariants.{Gives, Halts, Blocked}
-use Rattle.machine.specs.States.{hint}
+use Rattle.machine.specs.States.{hint, coded}
 use Rattle.machine.specs.Yields.{held_of, behind_words, held_yield, read_yield, field_count, field_type}
 use Rattle.machine.specs.Yields.{struct_field, field_yield, one_yield, sum_yield, assigned_by, assigned, acted}
 use Rattle.machine.specs.Malloc.{size_in, type_in, zeros, start_at}
@@ -328,20 +327,19 @@ module _ {S : Setting} {T : Terms} {ws structs types : List ℕ} (L : Loaded S T
   read_matches t_halts = m_halts
   read_matches {v} (t_word {c} e) = gives_on c (small_cell e (s.each v))
 
-  -- an assign of the cell c, which is in focus
-  assign_matches : {v : ℕ} {y : Yield} {then : (Cell → Redex) → Redex} (at : State) (c : Cell) → at.at ≡ c.value → at.code ≡ packed c.kind
-      → Small c.kind → Tested H v y then
-      → Matches H ws (assigned_by y (lent H ws) at v).heap (assigned_by y (lent H ws) at v).yield (then (λ _. gives (update H v c) c.value c.kind))
-  assign_matches at c ea ec k t_blocked = m_blocked
-  assign_matches at c ea ec k t_halts = m_halts
-  assign_matches {v} at c ea ec k (t_word {c = d} e) =
+  -- an assign of the cell c
+  assign_matches : {v : ℕ} {y : Yield} {then : (Cell → Redex) → Redex} (c : Cell) → Small c.kind → Tested H v y then
+      → Matches H ws (assigned_by y (lent H ws) (coded c.value (packed c.kind)) v).heap (assigned_by y (lent H ws) (coded c.value (packed c.kind)) v).yield (then (λ _. gives (update H v c) c.value c.kind))
+  assign_matches c k t_blocked = m_blocked
+  assign_matches c k t_halts = m_halts
+  assign_matches {v} c k (t_word {c = d} e) =
       let es : stored (lent H ws) v c ≡ lent (update H v c) ws =
       stored_lent H ws v c (in_heap H v d e) (omega (arith, L.heap_room)) in
-      rw (ea, ec, round_trip k) (m_gives {c = c} es (updated v c s k) k)
+      rw (round_trip k) (m_gives {c = c} es (updated v c s k) k)
 
   -- ---- a node with one part, and an act on two values: here alone an act is looked at
   pub one_matches : (o : One) (c : Cell) → SmallOne o → Small c.kind
-      → Matches H ws (lent H ws) (one_yield structs T.words (lent H ws) c.value (packed c.kind) (one_operation o) (one_argument o) (one_kind o))
+      → Matches H ws (lent H ws) (one_yield structs T.words (lent H ws) (coded c.value (packed c.kind)) (one_operation o) (one_argument o) (one_kind o))
       (one_redex S H o c.value c.kind)
   unfolding one_yield
   one_matches unchecked c o k = gives_on c k
@@ -349,13 +347,13 @@ module _ {S : Setting} {T : Terms} {ws structs types : List ℕ} (L : Loaded S T
   one_matches read c o k = read_matches (read_tested c.value c.kind k)
   one_matches (field f) c o k = field_matches f c.value c.kind k
 
-  pub act_matches : (o : Act) (at : State) (d c : Cell) → at.at ≡ c.value → at.code ≡ packed c.kind → Small d.kind → Small c.kind
-      → Matches H ws (acted T.words (lent H ws) at o d.value (packed d.kind)).heap
-      (acted T.words (lent H ws) at o d.value (packed d.kind)).yield
+  pub act_matches : (o : Act) (d c : Cell) → Small d.kind → Small c.kind
+      → Matches H ws (acted T.words (lent H ws) (coded c.value (packed c.kind)) o (coded d.value (packed d.kind))).heap
+      (acted T.words (lent H ws) (coded c.value (packed c.kind)) o (coded d.value (packed d.kind))).yield
       (act_redex S H o d.value d.kind c.value c.kind)
   unfolding assigned
-  act_matches Assign at d c ea ec kd kc = assign_matches at c ea ec kc (read_tested d.value d.kind kd)
-  act_matches Sum at d c ea ec kd kc = rw ea (sum_matches d.value d.kind c.value kd)
+  act_matches Assign d c kd kc = assign_matches c kc (read_tested d.value d.kind kd)
+  act_matches Sum d c kd kc = sum_matches d.value d.kind c.value kd
 
 module _ {S : Setting} {T : Terms} {ws structs types : List ℕ} (L : Loaded S T ws structs types) where
   -- ---- malloc

@@ -14,6 +14,8 @@ use Rattle.calculus.specs.declared.End.TheVariants.{Value, Stuck}
 use Rattle.calculus.specs.declared.Halt.{Halt}
 use Rattle.calculus.specs.declared.Outcome.{Outcome}
 use Rattle.image.specs.Shape.{height}
+use Rattle.machine.specs.declared.Focus.{Focus}
+use Rattle.machine.specs.declared.Focus.TheVariants.{Node}
 use Rattle.machine.specs.declared.Hint.{Hint}
 use Rattle.machine.specs.declared.Terms.{Terms}
 use Rattle.machine.specs.States.{Moved, moved, state, one_more, first_of}
@@ -83,9 +85,9 @@ record Memory (T : Terms) (R : ℕ) (H : Heap) (ht : Hint) (frames bound : List 
 
 -- n transitions are enough for what is left, and the steps are counted in 64 bits
 record Runs (S : Setting) (T : Terms) (ws structs types table : List ℕ) (R n : ℕ) : Type 0 where
-  from : {at code h lets left : ℕ} {x : Bool} {e : Expr} {frames bound : List ℕ} (H : Heap) (steps first : ℕ) (ht : Hint) → Memory T R H ht frames bound
-      → SimNodes table R at code h lets x frames bound e left → left < n → steps + n < 2 ^ 63
-      → Agrees T.words ws (drive table structs types T n (state at code h lets x steps first ht) (lent H ws) frames bound) steps first
+  from : {f : Focus} {h lets left : ℕ} {x : Bool} {e : Expr} {frames bound : List ℕ} (H : Heap) (steps first : ℕ) (ht : Hint) → Memory T R H ht frames bound
+      → SimNodes table R f h lets x frames bound e left → left < n → steps + n < 2 ^ 63
+      → Agrees T.words ws (drive table structs types T n (state f h lets x steps first ht) (lent H ws) frames bound) steps first
       (run S (T.limit - steps) H e)
 
 -- a step of the machine is a step before the rest
@@ -105,7 +107,7 @@ module _ {S : Setting} {T : Terms} {ws structs types : List ℕ} (L : Loaded S T
     -- a halt, and a step: at the limit they are not taken
     halts : {h : Halt} {m : Mode} (e : Expr) (l : ℕ) → T.limit - steps ≡ l → step S Checked H e ≡ halt h m
         → Agrees T.words ws
-        (after (moved (states.halt T.limit (state 0 0 0 0 (in_block m) steps first ht) h) (lent H ws) frames bound) (drive table structs types T n))
+        (after (moved (states.halt T.limit (state (Node 0) 0 0 (in_block m) steps first ht) h) (lent H ws) frames bound) (drive table structs types T n))
         steps
         first
         (run S l H e)
@@ -118,24 +120,24 @@ module _ {S : Setting} {T : Terms} {ws structs types : List ℕ} (L : Loaded S T
         rw (z, lt-leb T.limit steps (omega arith))
         (record { outcome_same = rw (first_now_lem steps first m (omega arith), k); heap_same = refl; heap_long = M.heap_long })
 
-    stepping : {at code h lets left' : ℕ} {x : Bool} {m : Mode} {H' : Heap} {e' : Expr} {frames' bound' : List ℕ} {ht' : Hint} {r : Moved}
+    stepping : {f : Focus} {h lets left' : ℕ} {x : Bool} {m : Mode} {H' : Heap} {e' : Expr} {frames' bound' : List ℕ} {ht' : Hint} {r : Moved}
         (e : Expr) (l : ℕ) → T.limit - steps ≡ l
-        → (T.limit ≤ steps → r ≡ moved (states.more (state 0 0 0 0 false steps first ht)) (lent H ws) frames bound)
+        → (T.limit ≤ steps → r ≡ moved (states.more (state (Node 0) 0 0 false steps first ht)) (lent H ws) frames bound)
         → (steps < T.limit
-        → r ≡ moved (states.goes (state at code h lets x (one_more steps) (first_of steps first (in_block m)) ht')) (lent H' ws) frames' bound')
+        → r ≡ moved (states.goes (state f h lets x (one_more steps) (first_of steps first (in_block m)) ht')) (lent H' ws) frames' bound')
         → step S Checked H e ≡ next H' e' m → Memory T R H' ht' frames' bound'
-        → SimNodes table R at code h lets x frames' bound' e' left' → left' < n
+        → SimNodes table R f h lets x frames' bound' e' left' → left' < n
         → Agrees T.words ws (after r (drive table structs types T n)) steps first (run S l H e)
     unfolding run
     stepping e zero q q₀ q₁ z M' sim d =
         rw (z, q₀ (omega arith))
         (record { outcome_same = rw (add-zero, ← first_none steps first); heap_same = refl; heap_long = M.heap_long })
-    stepping {at} {code} {h} {lets} {x = x} {m = m} {H' = H'} {frames' = frames'} {bound' = bound'} {ht' = ht'} {r = r} e (suc l) q q₀ q₁ z M' sim d =
+    stepping {f} {h} {lets} {x = x} {m = m} {H' = H'} {frames' = frames'} {bound' = bound'} {ht' = ht'} {r = r} e (suc l) d' q₀ q₁ z M' sim d =
         let left : T.limit - suc steps ≡ l = omega arith in
         let k : one_more steps ≡ suc steps = omega arith in
-        let f = first_of steps first (in_block m) in
-        let o : r ≡ moved (states.goes (state at code h lets x (suc steps) f ht')) (lent H' ws) frames' bound' =
-        q₁ (omega arith) ∙ ap (λ (n : ℕ). moved (states.goes (state at code h lets x n f ht')) (lent H' ws) frames' bound') k in
+        let q = first_of steps first (in_block m) in
+        let o : r ≡ moved (states.goes (state f h lets x (suc steps) q ht')) (lent H' ws) frames' bound' =
+        q₁ (omega arith) ∙ ap (λ (n : ℕ). moved (states.goes (state f h lets x n q ht')) (lent H' ws) frames' bound') k in
         rw (z, o)
         (step_first _ steps first m _ (omega arith)
         (rw left at (ih.from H' (suc steps) (first_of steps first (in_block m)) ht' M' sim d (omega arith))))
@@ -217,7 +219,7 @@ simulated {S} {T} {H} {e} {ws} {heap} {frames} {bound} {table} {structs} {types}
       words_few = r.words_few;
     } in
     let w : Waits table (height e) 0 0 0 e = record { spans = r.nodes_held; scoped = r.expr_scoped; small = r.expr_small; room = omega arith } in
-    let s : SimNodes table (height e) 0 0 0 0 false frames bound (fill 0 [] e) (0 + ticks e) = at_node bottom no_lets w in
+    let s : SimNodes table (height e) (Node 0) 0 0 false frames bound (fill 0 [] e) (0 + ticks e) = at_node bottom no_lets w in
     let m : Memory T (height e) H (first_hint T) frames bound = record {
       heap_small = r.heap_small;
       heap_long = r.heap_long;

@@ -7,7 +7,7 @@ use Rattle.calculus.specs.declared.Halt.TheVariants as halts
 use Rattle.machine.specs.declared.State.{State}
 use Rattle.machine.specs.declared.Hint.{Hint}
 use Rattle.machine.specs.declared.Terms.{Terms}
-use Rattle.machine.specs.States.{Leaving, hint, leaving, written, stuck, halt, step_within, focused, with_hint, one_more}
+use Rattle.machine.specs.States.{Leaving, hint, leaving, written, stuck, halt, step_within, with_value, with_hint, one_more}
 use Rattle.machine.specs.Yields.{field_count, field_type}
 
 -- how many words the target of the pointer with that code covers, and the number of the i-th one's type
@@ -37,7 +37,7 @@ first_hint T = hint 0 T.low
 -- the run found is taken, a step later, and remembered
 unfoldable pub room_taken : (structs types : List ℕ) (limit : ℕ) → List ℕ → State → (code size a : ℕ) → Leaving
 room_taken structs types limit ws s code size a =
-    written (step_within limit (with_hint (focused s a code) size a)) ws (zeros structs types code size a 0 ws)
+    written (step_within limit (with_hint (with_value s a code) size a)) ws (zeros structs types code size a 0 ws)
 
 abbrev pub room_found : Option ℕ → (structs types : List ℕ) (limit : ℕ) → List ℕ → State → (code size : ℕ) → Leaving
 room_found (Some a) structs types limit ws s code size = room_taken structs types limit ws s code size a

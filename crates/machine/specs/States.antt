@@ -3,12 +3,16 @@ use Rattle.std.specs.Prelude.{ℕ, ◌+◌, ◌-◌, ◌%◌, ◌^◌, Bool, Lis
 use Rattle.std.specs.declared.ops.ControlFlow.{ControlFlow}
 use Rattle.std.specs.declared.ops.ControlFlow.TheVariants.{Continue, Break}
 use Rattle.choice.specs.Choice.{choose, both}
+use Rattle.cells.specs.declared.Cell.{Cell}
 use Rattle.cells.specs.Code.{unpacked}
 use Rattle.calculus.specs.Setting.{cell}
 use Rattle.calculus.specs.Run.{outcome_of}
 use Rattle.calculus.specs.declared.Halt.{Halt}
 use Rattle.calculus.specs.declared.End.TheVariants as ends
 use Rattle.calculus.specs.declared.Outcome.{Outcome}
+use Rattle.machine.specs.declared.Coded.{Coded}
+use Rattle.machine.specs.declared.Focus.{Focus}
+use Rattle.machine.specs.declared.Focus.TheVariants as focus
 use Rattle.machine.specs.declared.State.{State}
 use Rattle.machine.specs.declared.Hint.{Hint}
 use Rattle.machine.specs.declared.Yield.{Yield}
@@ -33,25 +37,37 @@ turned (Break o) on ended = ended o
 abbrev pub hint : (size from : ℕ) → Hint
 hint size from = record { size = size; from = from }
 
-abbrev pub state : (at code height lets : ℕ) → Bool → (steps first : ℕ) → Hint → State
-state at code height lets inside steps first h =
-    record { at = at; code = code; height = height; lets = lets; inside = inside; steps = steps; first = first; hint = h }
+abbrev pub coded : (value code : ℕ) → Coded
+coded value code = record { value = value; code = code }
+
+abbrev pub cell_of : Coded → Cell
+cell_of v = cell v.value (unpacked v.code)
+
+abbrev pub state : Focus → (height lets : ℕ) → Bool → (steps first : ℕ) → Hint → State
+state f height lets inside steps first h =
+    record { focus = f; height = height; lets = lets; inside = inside; steps = steps; first = first; hint = h }
 
 -- another focus; another height, with the mode of the node there; another count of bound values; another place to start to look for room
-abbrev pub focused : State → (at code : ℕ) → State
-focused s at code = state at code s.height s.lets s.inside s.steps s.first s.hint
+abbrev pub focused : State → Focus → State
+focused s f = state f s.height s.lets s.inside s.steps s.first s.hint
+
+abbrev pub with_node : State → (at : ℕ) → State
+with_node s at = focused s (focus.Node at)
+
+abbrev pub with_value : State → (value code : ℕ) → State
+with_value s value code = focused s (focus.Value (coded value code))
 
 abbrev pub at_height : State → (height : ℕ) → Bool → State
-at_height s height inside = state s.at s.code height s.lets inside s.steps s.first s.hint
+at_height s height inside = state s.focus height s.lets inside s.steps s.first s.hint
 
 abbrev pub popped : State → State
 popped s = at_height s (s.height - 1) s.inside
 
 abbrev pub with_lets : State → (lets : ℕ) → State
-with_lets s lets = state s.at s.code s.height lets s.inside s.steps s.first s.hint
+with_lets s lets = state s.focus s.height lets s.inside s.steps s.first s.hint
 
 abbrev pub with_hint : State → (size from : ℕ) → State
-with_hint s size from = state s.at s.code s.height s.lets s.inside s.steps s.first (hint size from)
+with_hint s size from = state s.focus s.height s.lets s.inside s.steps s.first (hint size from)
 
 -- one more, in 64 bits
 abbrev pub one_more : ℕ → ℕ
@@ -66,15 +82,15 @@ first_in s = first_of s.steps s.first s.inside
 
 -- one step more
 abbrev pub stepped : State → State
-stepped s = state s.at s.code s.height s.lets s.inside (one_more s.steps) (first_in s) s.hint
+stepped s = state s.focus s.height s.lets s.inside (one_more s.steps) (first_in s) s.hint
 
 -- ---- how a run ends: the limit forbids the next step
 abbrev pub more : State → Turn
 more s = over (outcome_of ends.More s.steps s.first)
 
 -- the whole expression is this value
-abbrev pub done : State → Turn
-done s = over (outcome_of (ends.Value (cell s.at (unpacked s.code))) s.steps s.first)
+abbrev pub done : State → Coded → Turn
+done s v = over (outcome_of (ends.Value (cell_of v)) s.steps s.first)
 
 -- "Being Stuck is not" a step, and is told at the limit; "a halt is itself a step"
 abbrev pub stuck : State → Turn
@@ -89,7 +105,7 @@ step_within limit s = choose (nat_le limit s.steps) (λ _. more s) (λ _. goes (
 
 -- what a node gives is in focus, a step later
 abbrev pub contracted : (limit : ℕ) → State → Yield → Turn
-contracted limit s (Gives value code) = step_within limit (focused s value code)
+contracted limit s (Gives value code) = step_within limit (with_value s value code)
 contracted limit s (Halts h) = halt limit s h
 contracted limit s Blocked = stuck s
 

@@ -1,10 +1,13 @@
 -- The lent tables in rows of four numbers, nodes and frames. A row that is not whole is not there.
-use Rattle.std.specs.Prelude.{ℕ, ◌+◌, ◌*◌, ◌/◌, Bool, not, ◌==◌, List, length, set, nat_lt, slice_index, slice_set}
+use Rattle.std.specs.Prelude.{ℕ, ◌+◌, ◌*◌, ◌/◌, Bool, not, ◌==◌, List, length, set, nat_lt, slice_index, slice_set, Option, Some, None}
 use Rattle.std.specs.Int.{from_bool}
 use Rattle.choice.specs.Choice.{choose}
 use Rattle.calculus.specs.Operations.{operation_of}
 use Rattle.calculus.specs.declared.Operation.{Operation}
+use Rattle.machine.specs.declared.Coded.{Coded}
+use Rattle.machine.specs.declared.Frame.{Frame}
 use Rattle.machine.specs.declared.Node.{Node}
+use Rattle.machine.specs.States.{coded}
 
 -- number j of row i, 0 where there is no such row
 unfoldable pub in_row : List ℕ → (i j : ℕ) → ℕ
@@ -18,17 +21,23 @@ node o argument kind second = record { operation = o; argument = argument; kind 
 unfoldable pub node_at : List ℕ → (i : ℕ) → Node
 node_at t i = node (operation_of (in_row t i 0)) (in_row t i 1) (in_row t i 2) (in_row t i 3)
 
--- a number of a frame as a test, and back by `from_bool`
-abbrev pub flagged : ℕ → Bool
-flagged n = not (n == 0)
+-- A frame is a node, whether it lies inside an unchecked block, and the value of its first part with the code of its kind, which is 0 while
+-- that part is evaluated.
+abbrev pub frame : (node : ℕ) (inside : Bool) → Option Coded → Frame
+frame node inside first = record { node = node; inside = inside; first = first }
 
--- A frame is a node, whether it lies inside an unchecked block, and the value of its first part with the code of its kind, 0 while that
--- part is evaluated. The frames after a node was put at a place to wait for its first part:
+abbrev pub first_value : (value code : ℕ) → Option Coded
+first_value value code = choose (code == 0) (λ _. None) (λ _. Some (coded value code))
+
+unfoldable pub frame_at : List ℕ → (i : ℕ) → Frame
+frame_at t i = frame (in_row t i 0) (not (in_row t i 1 == 0)) (first_value (in_row t i 2) (in_row t i 3))
+
+-- the frames after a node was put at a place to wait for its first part
 unfoldable pub framed : List ℕ → (i node : ℕ) → (inside : Bool) → List ℕ
 framed t i node inside =
     choose (nat_lt i (length t / 4))
     (λ _. set (slice_set (slice_set (slice_set t (4 * i) node) (4 * i + 1) (from_bool inside)) (4 * i + 2) 0) (4 * i + 3) 0) (λ _. t)
 
 -- and after the value of that part was put there
-unfoldable pub kept : List ℕ → (i value code : ℕ) → List ℕ
-kept t i value code = choose (nat_lt i (length t / 4)) (λ _. set (slice_set t (4 * i + 2) value) (4 * i + 3) code) (λ _. t)
+unfoldable pub kept : List ℕ → (i : ℕ) → Coded → List ℕ
+kept t i v = choose (nat_lt i (length t / 4)) (λ _. set (slice_set t (4 * i + 2) v.value) (4 * i + 3) v.code) (λ _. t)

@@ -3,18 +3,17 @@
 use Rattle.cells.specs.declared.Cell.{Cell}
 use Rattle.std.specs.Prelude.{ℕ, ◌+◌, ◌-◌, ◌*◌, ◌/◌, ◌%◌, ◌^◌, Bool, List, ◌==◌, nat_le, nat_lt, slice_index, Option, Some, None}
 use Rattle.choice.specs.Choice.{choose, both}
-use Rattle.cells.specs.Code.{number_in, packed, unpacked}
+use Rattle.cells.specs.Code.{number_in, packed}
 use Rattle.cells.specs.Lent.{word_at, stored}
-use Rattle.calculus.specs.Setting.{cell}
 use Rattle.calculus.specs.declared.Act.{Act}
 use Rattle.calculus.specs.declared.Act.TheVariants.{Assign, Sum}
 use Rattle.calculus.specs.declared.Halt.TheVariants.{Null, Bounds}
 use Rattle.calculus.specs.declared.Operation.{Operation}
 use Rattle.calculus.specs.declared.Operation.TheVariants as op
-use Rattle.machine.specs.declared.State.{State}
+use Rattle.machine.specs.declared.Coded.{Coded}
 use Rattle.machine.specs.declared.Yield.{Yield}
 use Rattle.machine.specs.declared.Yield.TheVariants.{Gives, Halts, Blocked}
-use Rattle.machine.specs.States.{Yielding, yielding}
+use Rattle.machine.specs.States.{Yielding, yielding, cell_of}
 
 abbrev pub held_of : Option Cell → Yield
 held_of None = Blocked
@@ -49,18 +48,18 @@ struct_field t f v m s =
 unfoldable pub field_yield : List ℕ → (f v code : ℕ) → Yield
 field_yield t f v code = choose (code % 8 / 2 == 2) (λ _. struct_field t f v (code % 2) (number_in code)) (λ _. Blocked)
 
--- a node with one part, whose value v has that code of its kind; the argument and the kind are the node's own
-unfoldable pub one_yield : (structs : List ℕ) (words : ℕ) → List ℕ → (v code : ℕ) → Operation → (argument kind : ℕ) → Yield
-one_yield structs words ws v code op.Unchecked argument kind = Gives v code
-one_yield structs words ws v code op.Cast argument kind = Gives v kind
-one_yield structs words ws v code op.Read argument kind = read_yield ws words v code
-one_yield structs words ws v code op.Field argument kind = field_yield structs argument v code
-one_yield structs words ws v code op.Literal argument kind = Blocked
-one_yield structs words ws v code op.Variable argument kind = Blocked
-one_yield structs words ws v code op.Let argument kind = Blocked
-one_yield structs words ws v code op.Malloc argument kind = Blocked
-one_yield structs words ws v code (op.Acts o) argument kind = Blocked
-one_yield structs words ws v code op.Unknown argument kind = Blocked
+-- a node with one part, whose value is v; the argument and the kind are the node's own
+unfoldable pub one_yield : (structs : List ℕ) (words : ℕ) → List ℕ → Coded → Operation → (argument kind : ℕ) → Yield
+one_yield structs words ws v op.Unchecked argument kind = Gives v.value v.code
+one_yield structs words ws v op.Cast argument kind = Gives v.value kind
+one_yield structs words ws v op.Read argument kind = read_yield ws words v.value v.code
+one_yield structs words ws v op.Field argument kind = field_yield structs argument v.value v.code
+one_yield structs words ws v op.Literal argument kind = Blocked
+one_yield structs words ws v op.Variable argument kind = Blocked
+one_yield structs words ws v op.Let argument kind = Blocked
+one_yield structs words ws v op.Malloc argument kind = Blocked
+one_yield structs words ws v (op.Acts o) argument kind = Blocked
+one_yield structs words ws v op.Unknown argument kind = Blocked
 
 -- a sum: the count of a checked array pointer falls by the number, not below 0
 unfoldable pub sum_yield : (v code k : ℕ) → Yield
@@ -69,20 +68,20 @@ sum_yield v code k =
     (λ _. choose (v == 0) (λ _. Halts Null) (λ _. Gives ((v + k) % 2 ^ 32) (code % 2048 + 2048 * (code / 2048 - k))))
     (λ _. Gives ((v + k) % 2 ^ 32) code)
 
--- the word at an address becomes the value in focus, which is also given
-abbrev pub overwritten : List ℕ → State → (a : ℕ) → Yielding
-overwritten ws s a = yielding (Gives s.at s.code) (stored ws a (cell s.at (unpacked s.code)))
+-- the word at an address becomes the value v, which is also given
+abbrev pub overwritten : List ℕ → Coded → (a : ℕ) → Yielding
+overwritten ws v a = yielding (Gives v.value v.code) (stored ws a (cell_of v))
 
--- an assign of the value in focus: where a read gives a value
-abbrev pub assigned_by : Yield → List ℕ → State → (a : ℕ) → Yielding
-assigned_by (Gives value code) ws s a = overwritten ws s a
-assigned_by (Halts h) ws s a = yielding (Halts h) ws
-assigned_by Blocked ws s a = yielding Blocked ws
+-- an assign of the value v: where a read gives a value
+abbrev pub assigned_by : Yield → List ℕ → Coded → (a : ℕ) → Yielding
+assigned_by (Gives value code) ws v a = overwritten ws v a
+assigned_by (Halts h) ws v a = yielding (Halts h) ws
+assigned_by Blocked ws v a = yielding Blocked ws
 
-unfoldable pub assigned : (words : ℕ) → List ℕ → State → (v code : ℕ) → Yielding
-assigned words ws s v code = assigned_by (read_yield ws words v code) ws s v
+unfoldable pub assigned : (words : ℕ) → List ℕ → Coded → (to : Coded) → Yielding
+assigned words ws v to = assigned_by (read_yield ws words to.value to.code) ws v to.value
 
--- what is done with two values: v of the first part, with that code of its kind, and the one in focus
-abbrev pub acted : (words : ℕ) → List ℕ → State → Act → (v code : ℕ) → Yielding
-acted words ws s Assign v code = assigned words ws s v code
-acted words ws s Sum v code = yielding (sum_yield v code s.at) ws
+-- what is done with two values: d of the first part, and v of the second
+abbrev pub acted : (words : ℕ) → List ℕ → Coded → Act → (d : Coded) → Yielding
+acted words ws v Assign d = assigned words ws v d
+acted words ws v Sum d = yielding (sum_yield d.value d.code v.value) ws

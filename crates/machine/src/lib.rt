@@ -17,13 +17,34 @@ pub struct Terms {
     pub limit: u64,
 }
 
-// Where the machine stands. In focus is the node of number `at` where `code` is 0, else the value `at` that a part gave, with the code
-// of its kind (no kind has the code 0). Then how many frames and bound values there are, whether the focus lies inside an unchecked
+// The lent tables that hold a script, and on what terms it is run.
+#[derive(Clone, Copy)]
+pub struct Script<'a> {
+    pub nodes: &'a [u64],
+    pub structs: &'a [u64],
+    pub types: &'a [u64],
+    pub terms: Terms,
+}
+
+// A value as a number with the code of its kind.
+#[derive(Clone, Copy)]
+pub struct Coded {
+    pub value: u64,
+    pub code: u64,
+}
+
+// What is in focus: a node, by its number, or the value that a part gave.
+#[derive(Clone, Copy)]
+pub enum Focus {
+    Node(u64),
+    Value(Coded),
+}
+
+// Where the machine stands: what is in focus, how many frames and bound values there are, whether the focus lies inside an unchecked
 // block, the steps taken, the number of the first unchecked one, 0 if there was none, and where malloc may start to look.
 #[derive(Clone, Copy)]
 pub struct State {
-    pub at: u64,
-    pub code: u64,
+    pub focus: Focus,
     pub height: usize,
     pub lets: usize,
     pub inside: bool,
@@ -46,6 +67,15 @@ pub struct Node {
     pub argument: u64,
     pub kind: u64,
     pub second: u64,
+}
+
+// A frame as its row has it: a node that waits, whether it lies inside an unchecked block, and the value of its first part, once there is
+// one.
+#[derive(Clone, Copy)]
+pub struct Frame {
+    pub node: u64,
+    pub inside: bool,
+    pub first: Option<Coded>,
 }
 
 // What a node gives once its parts are values: a value with the code of its kind, a halt, or that no rule fits.

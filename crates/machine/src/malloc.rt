@@ -4,29 +4,23 @@ ghost use Rattle.machine.specs.Malloc.{size_in, type_in, start_at, room_taken, r
 ghost use Rattle.machine.specs.States.{leaving};
 
 use crate::yields::{field_count, field_type, number_of};
-use crate::{Hint, State, Terms, Turn};
+use crate::{Hint, Script, State, Turn};
 use calculus::Halt;
 use cells::{lowest_run, put_word};
 use std::ops::ControlFlow;
 
 // Room for the target of a checked pointer: the lowest run of words that is long enough.
 #[tactic(auto, unfolding(crate::specs::Malloc::room_for))]
-pub fn malloc(
-    heap: &mut [u64],
-    structs: &[u64],
-    types: &[u64],
-    terms: Terms,
-    s: State,
-    code: u64,
-) -> Turn
-    ensures { leaving result heap.new ≡ room_at structs.now types.now terms heap.old s code }
+pub fn malloc(heap: &mut [u64], script: &Script, s: State, code: u64) -> Turn
+    ensures { leaving result heap.new ≡ room_at script.now.structs.now script.now.types.now script.now.terms heap.old s code }
 {
-    let size = size_of(structs, code);
+    let terms = script.terms;
+    let size = size_of(script.structs, code);
     if size == 0 {
         return s.stuck();
     }
     match lowest_run(heap, size, start(s.hint, size, terms.low), terms.high) {
-        Some(address) => take(heap, structs, types, terms.limit, s, code, size, address),
+        Some(address) => take(heap, script, s, code, size, address),
         None => s.halt(terms.limit, Halt::Room),
     }
 }
@@ -40,27 +34,19 @@ fn start(hint: Hint, size: usize, low: usize) -> usize
 
 // The run found is taken, a step later: no run of that size starts lower from now on.
 #[tactic(auto, unfolding(crate::specs::Malloc::room_taken))]
-fn take(
-    heap: &mut [u64],
-    structs: &[u64],
-    types: &[u64],
-    limit: u64,
-    s: State,
-    code: u64,
-    size: usize,
-    address: usize,
-) -> Turn
-    ensures { leaving result heap.new ≡ room_taken structs.now types.now limit heap.old s code size address }
+fn take(heap: &mut [u64], script: &Script, s: State, code: u64, size: usize, address: usize) -> Turn
+    ensures { leaving result heap.new
+        ≡ room_taken script.now.structs.now script.now.types.now script.now.terms.limit heap.old s code size address }
 {
     let taken = State {
         hint: Hint {
             size,
             from: address,
         },
-        ..s.focused(address as u64, code)
+        ..s.with_value(address as u64, code)
     };
-    let next = taken.step_within(limit)?;
-    zero(heap, structs, types, code, size, address);
+    let next = taken.step_within(script.terms.limit)?;
+    zero(heap, script.structs, script.types, code, size, address);
     ControlFlow::Continue(next)
 }
 

@@ -5,7 +5,7 @@ ghost use Rattle.machine.specs.States.{leaving, moved};
 
 use crate::malloc::malloc;
 use crate::tables::{node_at, put_frame};
-use crate::{State, Terms, Turn};
+use crate::{Focus, Script, State, Turn};
 use calculus::Operation;
 use cells::{code_at, value_at};
 use std::ops::ControlFlow;
@@ -15,21 +15,20 @@ pub fn enter(
     heap: &mut [u64],
     frames: &mut [u64],
     bound: &[u64],
-    nodes: &[u64],
-    structs: &[u64],
-    types: &[u64],
-    terms: Terms,
+    script: &Script,
     s: State,
+    at: u64,
 ) -> Turn
-    ensures { moved result heap.new frames.new bound.now ≡ entering nodes.now structs.now types.now terms heap.old frames.old bound.now s }
+    ensures { moved result heap.new frames.new bound.now
+        ≡ entering script.now.nodes.now script.now.structs.now script.now.types.now script.now.terms heap.old frames.old bound.now s at }
 {
-    let node = node_at(nodes, s.at as usize);
+    let node = node_at(script.nodes, at as usize);
     let operation = node.operation;
     match operation {
-        Operation::Literal => ControlFlow::Continue(s.focused(node.argument, node.kind)),
+        Operation::Literal => ControlFlow::Continue(s.with_value(node.argument, node.kind)),
         Operation::Variable => variable(bound, s, node.argument as usize),
-        Operation::Malloc => malloc(heap, structs, types, terms, s, node.kind),
-        _ => first_part(frames, s, operation),
+        Operation::Malloc => malloc(heap, script, s, node.kind),
+        _ => first_part(frames, s, at, operation),
     }
 }
 
@@ -44,24 +43,24 @@ fn variable(bound: &[u64], s: State, out: usize) -> Turn
     }
     let value = value_at(bound, lets - out);
     let code = code_at(bound, lets - out);
-    ControlFlow::Continue(s.focused(value, code))
+    ControlFlow::Continue(s.with_value(value, code))
 }
 
 // The node waits in a frame for its first part, which is the next node.
 #[tactic(auto, using(crate::proofs::Arms::not_block), unfolding(crate::specs::Nodes::first_part))]
-fn first_part(frames: &mut [u64], s: State, operation: Operation) -> Turn
-    requires { s.at < 2 ^ 63 }
-    ensures { leaving result frames.new ≡ first_part frames.old s operation }
+fn first_part(frames: &mut [u64], s: State, at: u64, operation: Operation) -> Turn
+    requires { at < 2 ^ 63 }
+    ensures { leaving result frames.new ≡ first_part frames.old s at operation }
 {
     let height = s.height;
     if frames.len() / 4 <= height {
         return s.stuck();
     }
-    put_frame(frames, height, s.at, s.inside);
-    let inside = s.inside || matches!(operation, Operation::Unchecked);
+    put_frame(frames, height, at, s.inside);
     ControlFlow::Continue(State {
+        focus: Focus::Node(at + 1),
         height: height + 1,
-        inside,
-        ..s.focused(s.at + 1, 0)
+        inside: s.inside || matches!(operation, Operation::Unchecked),
+        ..s
     })
 }

@@ -3,17 +3,20 @@ ghost use Rattle.std.specs.Prelude.{◌≡◌};
 ghost use Rattle.calculus.specs.Run.{outcome_of};
 ghost use Rattle.machine.specs.States as states;
 
-use crate::{State, Turn, Yield};
+use crate::{Coded, Focus, State, Turn, Yield};
 use calculus::{End, Halt, Outcome};
 use cells::{Cell, Kind};
 use std::ops::ControlFlow;
 
 impl State {
-    // Another focus.
-    pub fn focused(self, at: u64, code: u64) -> State
-        ensures { result ≡ states.focused self at code }
+    // A value is in focus.
+    pub fn with_value(self, value: u64, code: u64) -> State
+        ensures { result ≡ states.with_value self value code }
     {
-        State { at, code, ..self }
+        State {
+            focus: Focus::Value(Coded { value, code }),
+            ..self
+        }
     }
 
     // One step more. Below the limit this does not wrap.
@@ -54,21 +57,17 @@ impl State {
         ensures { result ≡ states.contracted limit self given }
     {
         match given {
-            Yield::Gives { value, code } => self.focused(value, code).step_within(limit),
+            Yield::Gives { value, code } => self.with_value(value, code).step_within(limit),
             Yield::Halts(why) => self.halt(limit, why),
             Yield::Blocked => self.stuck(),
         }
     }
 
     // The whole expression is this value.
-    pub fn done(self) -> Turn
-        ensures { result ≡ states.done self }
+    pub fn done(self, v: Coded) -> Turn
+        ensures { result ≡ states.done self v }
     {
-        let cell = Cell {
-            value: self.at,
-            kind: Kind::from(self.code),
-        };
-        ControlFlow::Break(self.outcome(End::Value(cell)))
+        ControlFlow::Break(self.outcome(End::Value(v.into())))
     }
 
     // "Being Stuck is not" a step, and is told at the limit.
@@ -98,6 +97,18 @@ impl State {
             end,
             steps: self.steps,
             first: self.first,
+        }
+    }
+}
+
+// The cell of a value with the code of its kind.
+impl From<Coded> for Cell {
+    ghost from_gives = { λ v c. c ≡ states.cell_of v };
+
+    fn from(v: Coded) -> Cell {
+        Cell {
+            value: v.value,
+            kind: v.code.into(),
         }
     }
 }

@@ -1,9 +1,9 @@
 // Total accessors of the lent tables in rows of four numbers: the nodes, and the frames (node, whether it lies inside an unchecked block,
 // then the value of its first part with the code of its kind, 0 while that part is evaluated). A row that is not whole is not there.
 ghost use Rattle.std.specs.Prelude.{◌≡◌, ◌<◌};
-ghost use Rattle.machine.specs.Tables.{in_row, node_at, framed, kept};
+ghost use Rattle.machine.specs.Tables.{in_row, node_at, frame_at, framed, kept};
 
-use crate::Node;
+use crate::{Coded, Frame, Node};
 use calculus::Operation;
 
 // Number j of row i, 0 where there is no such row.
@@ -33,6 +33,20 @@ pub fn node_at(nodes: &[u64], i: usize) -> Node
     }
 }
 
+// Frame i; a row that is not there has the numbers 0.
+#[tactic(auto, unfolding(crate::specs::Tables::frame_at))]
+pub fn frame_at(frames: &[u64], i: usize) -> Frame
+    ensures { result ≡ frame_at frames.now i }
+{
+    let value = row(frames, i, 2);
+    let code = row(frames, i, 3);
+    Frame {
+        node: row(frames, i, 0),
+        inside: row(frames, i, 1) != 0,
+        first: (code != 0).then_some(Coded { value, code }),
+    }
+}
+
 // A node waits for its first part in frame i from now on; where there is no such row nothing changes.
 #[tactic(auto, unfolding(crate::specs::Tables::framed))]
 pub fn put_frame(frames: &mut [u64], i: usize, node: u64, inside: bool)
@@ -48,11 +62,11 @@ pub fn put_frame(frames: &mut [u64], i: usize, node: u64, inside: bool)
 
 // Frame i keeps the value of its node's first part from now on.
 #[tactic(auto, unfolding(crate::specs::Tables::kept))]
-pub fn keep(frames: &mut [u64], i: usize, value: u64, code: u64)
-    ensures { frames.new ≡ kept frames.old i value code }
+pub fn keep(frames: &mut [u64], i: usize, v: Coded)
+    ensures { frames.new ≡ kept frames.old i v }
 {
     if i < frames.len() / 4 {
-        frames[4 * i + 2] = value;
-        frames[4 * i + 3] = code;
+        frames[4 * i + 2] = v.value;
+        frames[4 * i + 3] = v.code;
     }
 }

@@ -6,7 +6,7 @@ ghost use Rattle.machine.specs.Entry.{Stepped};
 
 use crate::nodes::enter;
 use crate::values::resume;
-use crate::{Hint, State, Terms, Turn};
+use crate::{Focus, Hint, Script, State, Terms, Turn};
 use calculus::{End, Outcome};
 use std::ops::ControlFlow;
 
@@ -22,9 +22,14 @@ pub fn run(
 ) -> Outcome
     ensures { Stepped nodes.now structs.now types.now terms heap.old frames.old bound.old result heap.new frames.new bound.new }
 {
+    let script = Script {
+        nodes,
+        structs,
+        types,
+        terms,
+    };
     let mut s = State {
-        at: 0,
-        code: 0,
+        focus: Focus::Node(0),
         height: 0,
         lets: 0,
         inside: false,
@@ -37,7 +42,7 @@ pub fn run(
     };
     // Each node is entered once, and each of its parts hands back one value: a transition for each number of the table is enough.
     for _ in 0..nodes.len() {
-        match turn(heap, frames, bound, nodes, structs, types, terms, s) {
+        match turn(heap, frames, bound, &script, s) {
             ControlFlow::Continue(next) => s = next,
             ControlFlow::Break(outcome) => return outcome,
         }
@@ -47,21 +52,12 @@ pub fn run(
 
 // One transition: a node is in focus, or a value.
 #[tactic(auto, unfolding(crate::specs::Turns::transition))]
-fn turn(
-    heap: &mut [u64],
-    frames: &mut [u64],
-    bound: &mut [u64],
-    nodes: &[u64],
-    structs: &[u64],
-    types: &[u64],
-    terms: Terms,
-    s: State,
-) -> Turn
-    ensures { moved result heap.new frames.new bound.new ≡ transition nodes.now structs.now types.now terms heap.old frames.old bound.old s }
+fn turn(heap: &mut [u64], frames: &mut [u64], bound: &mut [u64], script: &Script, s: State) -> Turn
+    ensures { moved result heap.new frames.new bound.new
+        ≡ transition script.now.nodes.now script.now.structs.now script.now.types.now script.now.terms heap.old frames.old bound.old s }
 {
-    if s.code == 0 {
-        enter(heap, frames, bound, nodes, structs, types, terms, s)
-    } else {
-        resume(heap, frames, bound, nodes, structs, terms, s)
+    match s.focus {
+        Focus::Node(at) => enter(heap, frames, bound, script, s, at),
+        Focus::Value(v) => resume(heap, frames, bound, script, s, v),
     }
 }

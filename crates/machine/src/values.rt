@@ -3,44 +3,45 @@ ghost use Rattle.std.specs.Prelude.{◌≡◌};
 ghost use Rattle.machine.specs.Values.{handing, after_first, after_second, binding, second_part};
 ghost use Rattle.machine.specs.States.{leaving, moved, stacked};
 
-use crate::tables::{keep, node_at, row};
+use crate::tables::{frame_at, keep, node_at};
 use crate::yields::{act, one};
-use crate::{Node, State, Terms, Turn};
+use crate::{Coded, Focus, Node, Script, State, Terms, Turn};
 use calculus::Operation;
 use cells::put_word;
 use std::ops::ControlFlow;
 
-#[tactic(auto, unfolding(crate::specs::Values::handing, crate::specs::Values::resumed))]
+#[tactic(auto, unfolding(crate::specs::Values::handing))]
 pub fn resume(
     heap: &mut [u64],
     frames: &mut [u64],
     bound: &mut [u64],
-    nodes: &[u64],
-    structs: &[u64],
-    terms: Terms,
+    script: &Script,
     s: State,
+    v: Coded,
 ) -> Turn
-    ensures { moved result heap.new frames.new bound.new ≡ handing nodes.now structs.now terms heap.old frames.old bound.old s }
+    ensures { moved result heap.new frames.new bound.new
+        ≡ handing script.now.nodes.now script.now.structs.now script.now.terms heap.old frames.old bound.old s v }
 {
-    let height = s.height;
-    if height == 0 {
-        return s.done();
+    if s.height == 0 {
+        return s.done(v);
     }
-    let top = height - 1;
-    let node = node_at(nodes, row(frames, top, 0) as usize);
-    let inside = row(frames, top, 1) != 0;
-    let kind = row(frames, top, 3);
-    if kind == 0 {
-        let around = State { inside, ..s };
-        after_first(frames, bound, heap, structs, terms, around, node)
-    } else {
-        let around = State {
-            height: top,
-            inside,
-            ..s
-        };
-        let value = row(frames, top, 2);
-        after_second(heap, terms, around, node.operation, value, kind)
+    let top = s.height - 1;
+    let frame = frame_at(frames, top);
+    let inside = frame.inside;
+    let node = node_at(script.nodes, frame.node as usize);
+    match frame.first {
+        None => {
+            let around = State { inside, ..s };
+            after_first(frames, bound, heap, script, around, v, node)
+        }
+        Some(first) => {
+            let around = State {
+                height: top,
+                inside,
+                ..s
+            };
+            after_second(heap, script.terms, around, v, node.operation, first)
+        }
     }
 }
 
@@ -50,24 +51,26 @@ fn after_first(
     frames: &mut [u64],
     bound: &mut [u64],
     heap: &[u64],
-    structs: &[u64],
-    terms: Terms,
+    script: &Script,
     s: State,
+    v: Coded,
     node: Node,
 ) -> Turn
-    ensures { stacked result frames.new bound.new ≡ after_first structs.now terms heap.now frames.old bound.old s node }
+    ensures { stacked result frames.new bound.new
+        ≡ after_first script.now.structs.now script.now.terms heap.now frames.old bound.old s v node }
 {
+    let limit = script.terms.limit;
     let operation = node.operation;
     match operation {
-        Operation::Let => bind(frames, bound, terms.limit, s, node.second),
-        Operation::Acts(_) => second_part(frames, s, node.second),
+        Operation::Let => bind(frames, bound, limit, s, v, node.second),
+        Operation::Acts(_) => second_part(frames, s, v, node.second),
         _ => {
-            let given = one(heap, structs, terms.words, s, node);
+            let given = one(heap, script.structs, script.terms.words, v, node);
             let popped = State {
                 height: s.height.saturating_sub(1),
                 ..s
             };
-            popped.contracted(terms.limit, given)
+            popped.contracted(limit, given)
         }
     }
 }
@@ -78,48 +81,48 @@ fn after_second(
     heap: &mut [u64],
     terms: Terms,
     s: State,
+    v: Coded,
     operation: Operation,
-    value: u64,
-    kind: u64,
+    first: Coded,
 ) -> Turn
-    ensures { leaving result heap.new ≡ after_second terms heap.old s operation value kind }
+    ensures { leaving result heap.new ≡ after_second terms heap.old s v operation first }
 {
     match operation {
         Operation::Let => ControlFlow::Continue(State {
             lets: s.lets.saturating_sub(1),
             ..s
         }),
-        Operation::Acts(o) => act(heap, terms, s, o, value, kind),
+        Operation::Acts(o) => act(heap, terms, s, v, o, first),
         _ => s.stuck(),
     }
 }
 
 // The value of a let's bound part is bound, and its body is entered.
 #[tactic(auto, unfolding(crate::specs::Values::binding))]
-fn bind(frames: &mut [u64], bound: &mut [u64], limit: u64, s: State, body: u64) -> Turn
-    ensures { stacked result frames.new bound.new ≡ binding limit frames.old bound.old s body }
+fn bind(frames: &mut [u64], bound: &mut [u64], limit: u64, s: State, v: Coded, body: u64) -> Turn
+    ensures { stacked result frames.new bound.new ≡ binding limit frames.old bound.old s v body }
 {
     let lets = s.lets;
     if bound.len() / 2 <= lets {
         return s.stuck();
     }
     let next = s.step_within(limit)?;
-    put_word(bound, lets + 1, s.at, s.code);
-    second_part(
-        frames,
-        State {
-            lets: lets + 1,
-            ..next
-        },
-        body,
-    )
+    put_word(bound, lets + 1, v.value, v.code);
+    let within = State {
+        lets: lets + 1,
+        ..next
+    };
+    second_part(frames, within, v, body)
 }
 
 // The value of a node's first part is kept in its frame, and its second part is entered.
 #[tactic(auto, unfolding(crate::specs::Values::second_part))]
-fn second_part(frames: &mut [u64], s: State, part: u64) -> Turn
-    ensures { leaving result frames.new ≡ second_part frames.old s part }
+fn second_part(frames: &mut [u64], s: State, v: Coded, part: u64) -> Turn
+    ensures { leaving result frames.new ≡ second_part frames.old s v part }
 {
-    keep(frames, s.height.saturating_sub(1), s.at, s.code);
-    ControlFlow::Continue(s.focused(part, 0))
+    keep(frames, s.height.saturating_sub(1), v);
+    ControlFlow::Continue(State {
+        focus: Focus::Node(part),
+        ..s
+    })
 }

@@ -7,39 +7,39 @@ ghost use Rattle.machine.specs.Yields.{one_yield, read_yield, held_yield, acted,
 ghost use Rattle.machine.specs.Yields.{sum_yield, field_yield, struct_field, field_count, field_type};
 ghost use Rattle.machine.specs.States.{leaving, settled};
 
-use crate::{Node, State, Terms, Turn, Yield};
+use crate::{Coded, Node, State, Terms, Turn, Yield};
 use calculus::{Act, Halt, Operation};
-use cells::{Cell, Kind, cell_at, store, word};
+use cells::{cell_at, store, word};
 use std::ops::ControlFlow;
 
 // A node with one part, whose value is in focus.
 #[tactic(auto, using(crate::proofs::Arms::not_single), unfolding(crate::specs::Yields::one_yield))]
-pub fn one(heap: &[u64], structs: &[u64], words: usize, s: State, node: Node) -> Yield
-    ensures { result ≡ one_yield structs.now words heap.now s.at s.code node.operation node.argument node.kind }
+pub fn one(heap: &[u64], structs: &[u64], words: usize, v: Coded, node: Node) -> Yield
+    ensures { result ≡ one_yield structs.now words heap.now v node.operation node.argument node.kind }
 {
     match node.operation {
         Operation::Unchecked => Yield::Gives {
-            value: s.at,
-            code: s.code,
+            value: v.value,
+            code: v.code,
         },
         Operation::Cast => Yield::Gives {
-            value: s.at,
+            value: v.value,
             code: node.kind,
         },
-        Operation::Read => read(heap, words, s.at, s.code),
-        Operation::Field => field_address(structs, node.argument, s.at, s.code),
+        Operation::Read => read(heap, words, v.value, v.code),
+        Operation::Field => field_address(structs, node.argument, v.value, v.code),
         _ => Yield::Blocked,
     }
 }
 
 // What is done with two values: that of the first part is told, that of the second is in focus.
 #[tactic(auto, using(crate::proofs::Memory::settled_same))]
-pub fn act(heap: &mut [u64], terms: Terms, s: State, o: Act, value: u64, code: u64) -> Turn
-    ensures { leaving result heap.new ≡ settled terms.limit s heap.old (acted terms.words heap.old s o value code) }
+pub fn act(heap: &mut [u64], terms: Terms, s: State, v: Coded, o: Act, first: Coded) -> Turn
+    ensures { leaving result heap.new ≡ settled terms.limit s heap.old (acted terms.words heap.old v o first) }
 {
     match o {
-        Act::Assign => assign(heap, terms, s, value, code),
-        Act::Sum => s.contracted(terms.limit, sum(value, code, s.at)),
+        Act::Assign => assign(heap, terms, s, v, first),
+        Act::Sum => s.contracted(terms.limit, sum(first.value, first.code, v.value)),
     }
 }
 
@@ -77,11 +77,11 @@ fn held(heap: &[u64], words: usize, address: usize) -> Yield
 
 // Assign the value in focus at a pointer: where a read gives a value.
 #[tactic(auto, using(crate::proofs::Memory::settled_same), unfolding(crate::specs::Yields::assigned))]
-fn assign(heap: &mut [u64], terms: Terms, s: State, value: u64, code: u64) -> Turn
-    ensures { leaving result heap.new ≡ settled terms.limit s heap.old (assigned terms.words heap.old s value code) }
+fn assign(heap: &mut [u64], terms: Terms, s: State, v: Coded, to: Coded) -> Turn
+    ensures { leaving result heap.new ≡ settled terms.limit s heap.old (assigned terms.words heap.old v to) }
 {
-    match read(heap, terms.words, value, code) {
-        Yield::Gives { value: _, code: _ } => write(heap, terms.limit, s, value as usize),
+    match read(heap, terms.words, to.value, to.code) {
+        Yield::Gives { .. } => write(heap, terms.limit, s, v, to.value as usize),
         Yield::Halts(why) => s.halt(terms.limit, why),
         Yield::Blocked => s.stuck(),
     }
@@ -89,18 +89,11 @@ fn assign(heap: &mut [u64], terms: Terms, s: State, value: u64, code: u64) -> Tu
 
 // The word at the address holds the value in focus, a step later.
 #[tactic(auto, unfolding(crate::specs::States::settled))]
-fn write(heap: &mut [u64], limit: u64, s: State, address: usize) -> Turn
-    ensures { leaving result heap.new ≡ settled limit s heap.old (overwritten heap.old s address) }
+fn write(heap: &mut [u64], limit: u64, s: State, v: Coded, address: usize) -> Turn
+    ensures { leaving result heap.new ≡ settled limit s heap.old (overwritten heap.old v address) }
 {
-    let next = s.step_within(limit)?;
-    store(
-        heap,
-        address,
-        Cell {
-            value: s.at,
-            kind: Kind::from(s.code),
-        },
-    );
+    let next = s.with_value(v.value, v.code).step_within(limit)?;
+    store(heap, address, v.into());
     ControlFlow::Continue(next)
 }
 

@@ -14,4 +14,4 @@ pub record Driving (heap₀ frames₀ bound₀ nodes structs types : List ℕ) (
 
 abbrev pub invariant-loop : goal.invariant-loop
 invariant-loop l =
-    Driving l.initial.heap l.initial.frames l.initial.bound l.nodes l.structs l.types l.terms l.heap l.frames l.bound l.s (length l.nodes - l.counter)
+    Driving l.initial.heap l.initial.frames l.initial.bound l.nodes l.structs l.types l.fn.terms l.heap l.frames l.bound l.s (length l.nodes - l.counter)
