@@ -1,15 +1,14 @@
 // The answer to an image over a lent heap: it is loaded into tables, judged, and run.
-ghost use Rattle.std.specs.Prelude.{ℕ, ◌*◌, ◌/◌, ◌≤◌, ◌≡◌, List, length, min};
+ghost use Rattle.std.specs.Prelude.{ℕ, ◌*◌, ◌/◌, ◌≤◌, ◌≡◌, List, length, min, Ok};
 ghost use Rattle.image.specs.Content.{Content};
 ghost use Rattle.codlinbell.specs.Answered.{answering, answered, ran, judged_then, content_verdict, content_run, default_limit};
 ghost use Rattle.codlinbell.specs.Prepared.{LongTables, Prepared};
-ghost use Rattle.answers.specs.declared.Answer;
 
 use crate::heap::place_cells;
 use answers::Answer;
 use calculus::Outcome;
 use cells::{clear, heap_words};
-use image::{Loading, load};
+use image::load;
 use judge::judge_script;
 use machine::{Terms, run};
 
@@ -91,29 +90,25 @@ fn answer_in(
     ensures { answering result heap.new ≡ answered image.now heap.old limit }
 {
     let words = heap_words(heap);
-    match load(image, words, structs, types, cells, nodes) {
-        Loading::Loaded(sizes) => {
-            let s = 17 * sizes.structs;
-            let t = sizes.types;
-            let c = 3 * sizes.cells;
-            let n = 4 * sizes.nodes;
-            let marked = sizes.cells;
-            judge_and_run(
-                heap,
-                &mut marks[..marked],
-                queue,
-                bound,
-                frames,
-                &structs[..s],
-                &types[..t],
-                &cells[..c],
-                &nodes[..n],
-                words,
-                limit,
-            )
-        }
-        Loading::Refused(refusal) => Answer::Refused(refusal),
-    }
+    let sizes = load(image, words, structs, types, cells, nodes)?;
+    let s = 17 * sizes.structs;
+    let t = sizes.types;
+    let c = 3 * sizes.cells;
+    let n = 4 * sizes.nodes;
+    let marked = sizes.cells;
+    judge_and_run(
+        heap,
+        &mut marks[..marked],
+        queue,
+        bound,
+        frames,
+        &structs[..s],
+        &types[..t],
+        &cells[..c],
+        &nodes[..n],
+        words,
+        limit,
+    )
 }
 
 // The content of the tables is judged, and run if it is accepted; if not, the heap stays as it is.
@@ -134,12 +129,10 @@ fn judge_and_run(
         → Prepared image heap.old words c structs.now types.now cells.now nodes.now marks.old queue.old bound.old frames.old
         → answering result heap.new ≡ judged_then heap.old (content_verdict heap.old c) (λ _. content_run heap.old limit c) }
 {
-    match judge_script(structs, types, cells, nodes, marks, queue, bound) {
-        Ok(_) => Answer::Ran(place_and_run(
-            heap, bound, frames, structs, types, cells, nodes, words, limit,
-        )),
-        Err(refusal) => Answer::Refused(refusal),
-    }
+    judge_script(structs, types, cells, nodes, marks, queue, bound)?;
+    Ok(place_and_run(
+        heap, bound, frames, structs, types, cells, nodes, words, limit,
+    ))
 }
 
 // The content of the tables is run over its own heap.
@@ -156,7 +149,7 @@ fn place_and_run(
 ) -> Outcome
     ensures { (image : List ℕ) (c : Content) (marks queue : List ℕ)
         → Prepared image heap.old words c structs.now types.now cells.now nodes.now marks queue bound.old frames.old
-        → answering (Answer.Ran result) heap.new ≡ ran heap.old (content_run heap.old limit c) }
+        → answering (Ok result) heap.new ≡ ran heap.old (content_run heap.old limit c) }
 {
     clear(heap, words);
     place_cells(heap, cells);

@@ -4,7 +4,7 @@ ghost use Rattle.judge.specs.Script.{as_verdict};
 ghost use Rattle.codlinbell.specs.Answered.{announced};
 ghost use Rattle.codlinbell.specs.Prepared.{LongTables};
 
-use image::{Loading, load};
+use image::load;
 use calculus::Refusal;
 use cells::Kind;
 use judge::judge_script;
@@ -48,22 +48,18 @@ fn judge_in(
     requires { LongTables image.now structs.old types.old cells.old nodes.old marks.old queue.old bound.old bound.old }
     ensures { as_verdict result ≡ announced words image.now }
 {
-    match load(image, words, structs, types, cells, nodes) {
-        Loading::Loaded(sizes) => {
-            let s = 17 * sizes.structs;
-            let t = sizes.types;
-            let c = 3 * sizes.cells;
-            let n = 4 * sizes.nodes;
-            judge_script(
-                &structs[..s],
-                &types[..t],
-                &cells[..c],
-                &nodes[..n],
-                marks,
-                queue,
-                bound,
-            )
-        }
-        Loading::Refused(refusal) => Err(refusal),
-    }
+    let sizes = load(image, words, structs, types, cells, nodes)?;
+    let s = 17 * sizes.structs;
+    let t = sizes.types;
+    let c = 3 * sizes.cells;
+    let n = 4 * sizes.nodes;
+    judge_script(
+        &structs[..s],
+        &types[..t],
+        &cells[..c],
+        &nodes[..n],
+        marks,
+        queue,
+        bound,
+    )
 }
