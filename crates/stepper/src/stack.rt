@@ -5,8 +5,7 @@ ghost use Rattle.stepper.specs.States.{changed, placed_on};
 
 use crate::malloc::malloc;
 use crate::nodes::{act, one};
-use crate::states::{counted, done, more, settle, sized, stuck, topped};
-use crate::{StepState, StepTurn};
+use crate::{Script, StepState, StepTurn};
 use calculus::Act;
 use cells::{code_at, put_word, value_at};
 use tables::Task;
@@ -19,10 +18,10 @@ pub fn push(stack: &mut [u64], s: StepState, value: u64, code: u64) -> StepTurn
 {
     let height = s.height;
     if stack.len() / 2 < height {
-        return stuck(s);
+        return s.stuck();
     }
     put_word(stack, height, s.value, s.code);
-    StepTurn::Goes(topped(sized(s, height + 1, s.lets), value, code))
+    StepTurn::Goes(s.sized(height + 1, s.lets).topped(value, code))
 }
 
 // The value of a variable, by how many lets out it is, the outermost at address 1; int 0 where it is bound nowhere.
@@ -39,53 +38,26 @@ pub fn fetch(stack: &mut [u64], bound: &[u64], s: StepState, out: usize) -> Step
 }
 
 // A malloc: its pointer is put on top.
-pub fn allot(
-    heap: &mut [u64],
-    stack: &mut [u64],
-    structs: &[u64],
-    types: &[u64],
-    terms: Terms,
-    s: StepState,
-    code: u64,
-) -> StepTurn
-    ensures { placed_on result heap.new stack.new ≡ allotted structs.now types.now terms heap.old stack.old s code }
+pub fn allot(heap: &mut [u64], stack: &mut [u64], script: &Script, s: StepState, code: u64) -> StepTurn
+    ensures { placed_on result heap.new stack.new
+        ≡ allotted script.now.structs.now script.now.types.now script.now.terms heap.old stack.old s code }
 {
     let height = s.height;
     if stack.len() / 2 < height {
-        return stuck(s);
+        return s.stuck();
     }
     put_word(stack, height, s.value, s.code);
-    malloc(
-        heap,
-        structs,
-        types,
-        terms,
-        sized(s, height + 1, s.lets),
-        code,
-    )
+    malloc(heap, script, s.sized(height + 1, s.lets), code)
 }
 
 // A node with one part: what it gives takes the place of the value on top.
-pub fn apply(
-    heap: &[u64],
-    structs: &[u64],
-    types: &[u64],
-    terms: Terms,
-    s: StepState,
-    task: Task,
-    slot: usize,
-    datum: u64,
-) -> StepTurn
-    ensures { result ≡ applied structs.now types.now terms heap.now s task slot datum }
+pub fn apply(heap: &[u64], script: &Script, s: StepState, task: Task, slot: usize, datum: u64) -> StepTurn
+    ensures { result ≡ applied script.now.structs.now script.now.types.now script.now.terms heap.now s task slot datum }
 {
     if s.height == 0 {
-        return stuck(s);
+        return s.stuck();
     }
-    settle(
-        s,
-        terms.limit,
-        one(heap, structs, types, terms.words, s, task, slot, datum),
-    )
+    s.settle(script.terms.limit, one(heap, script, s, task, slot, datum))
 }
 
 // A node with two parts: what it gives takes the place of both values.
@@ -94,12 +66,12 @@ pub fn join(heap: &mut [u64], stack: &[u64], terms: Terms, s: StepState, o: Act)
 {
     let height = s.height;
     if height < 2 {
-        return stuck(s);
+        return s.stuck();
     }
     let under = height - 1;
     let value = value_at(stack, under);
     let code = code_at(stack, under);
-    act(heap, terms, sized(s, under, s.lets), o, value, code)
+    act(heap, terms, s.sized(under, s.lets), o, value, code)
 }
 
 // The value on top is bound, a step, and the one below it is on top.
@@ -109,19 +81,19 @@ pub fn bind(bound: &mut [u64], stack: &[u64], limit: u64, s: StepState) -> StepT
     let height = s.height;
     let lets = s.lets;
     if height == 0 {
-        return stuck(s);
+        return s.stuck();
     }
     if bound.len() / 2 <= lets {
-        return stuck(s);
+        return s.stuck();
     }
     if limit <= s.steps {
-        return more(s);
+        return s.more();
     }
     let below = height - 1;
     let value = value_at(stack, below);
     let code = code_at(stack, below);
     put_word(bound, lets + 1, s.value, s.code);
-    StepTurn::Steps(counted(topped(sized(s, below, lets + 1), value, code)))
+    StepTurn::Steps(s.sized(below, lets + 1).topped(value, code).counted())
 }
 
 // The innermost bound value is forgotten.
@@ -130,17 +102,14 @@ pub fn unbind(s: StepState) -> StepTurn
 {
     let lets = s.lets;
     if lets == 0 {
-        return stuck(s);
+        return s.stuck();
     }
-    StepTurn::Goes(topped(sized(s, s.height, lets - 1), s.value, s.code))
+    StepTurn::Goes(s.sized(s.height, lets - 1).topped(s.value, s.code))
 }
 
 // The value on top is the whole expression's.
 pub fn stop(s: StepState) -> StepTurn
     ensures { result ≡ stopped_at s }
 {
-    if s.height == 0 {
-        return stuck(s);
-    }
-    done(s)
+    if s.height == 0 { s.stuck() } else { s.done() }
 }
