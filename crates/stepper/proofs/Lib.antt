@@ -5,7 +5,6 @@ pub mod Advances
 pub mod Others
 pub mod Settled
 pub mod Looks
-pub mod Onward
 pub mod OnePart
 pub mod Listed
 pub mod Fitting

@@ -10,6 +10,7 @@ use tables::size_of;
 use yields::{start, zero};
 
 // Room for the target of a checked pointer: the lowest run of words that is long enough. The pointer's place on the stack is counted.
+#[tactic(auto, unfolding(crate::specs::Malloc::room_sized))]
 pub fn malloc(heap: &mut [u64], script: &Script, s: StepState, code: u64) -> StepTurn
     ensures { changed result heap.new ≡ room_gives script.now.structs.now script.now.types.now script.now.terms heap.old s code }
 {
@@ -25,6 +26,7 @@ pub fn malloc(heap: &mut [u64], script: &Script, s: StepState, code: u64) -> Ste
 }
 
 // The run found is taken, a step later: no run of that size starts lower from now on.
+#[tactic(auto, unfolding(crate::specs::Malloc::room_takes))]
 fn take(heap: &mut [u64], script: &Script, s: StepState, code: u64, size: usize, address: usize) -> StepTurn
     ensures { changed result heap.new
         ≡ room_takes script.now.structs.now script.now.types.now script.now.terms.limit heap.old s code size address }

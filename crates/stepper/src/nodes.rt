@@ -11,6 +11,7 @@ use tables::{Task, type_code};
 use yields::{Terms, Yield, field_address, read, sum};
 
 // A node with one part, whose value is on top; the slot and the datum are its row's.
+#[tactic(auto, unfolding(crate::specs::Nodes::one_gives))]
 pub fn one(heap: &[u64], script: &Script, s: StepState, task: Task, slot: usize, datum: u64) -> Yield
     ensures { result
         ≡ one_gives script.now.structs.now script.now.types.now script.now.terms.words heap.now s.value s.code task slot datum }
@@ -31,6 +32,7 @@ pub fn one(heap: &[u64], script: &Script, s: StepState, task: Task, slot: usize,
 }
 
 // What is done with two values: that of the first part is told, that of the second is on top.
+#[tactic(auto, using(crate::proofs::Settled::settled_alike))]
 pub fn act(heap: &mut [u64], terms: Terms, s: StepState, o: Act, value: u64, code: u64) -> StepTurn
     ensures { changed result heap.new ≡ settled_on terms.limit s heap.old (act_gives terms.words heap.old o s.value s.code value code) }
 {
@@ -41,17 +43,19 @@ pub fn act(heap: &mut [u64], terms: Terms, s: StepState, o: Act, value: u64, cod
 }
 
 // Assign the value on top at a pointer: where a read gives a value.
+#[tactic(auto, using(crate::proofs::Settled::settled_alike), unfolding(yields::specs::Yields::assign_gives))]
 fn assign(heap: &mut [u64], terms: Terms, s: StepState, value: u64, code: u64) -> StepTurn
     ensures { changed result heap.new ≡ settled_on terms.limit s heap.old (assign_gives terms.words heap.old s.value s.code value code) }
 {
     match read(heap, terms.words, value, code) {
-        Yield::Gives { value: _, code: _ } => write(heap, terms.limit, s, value as usize),
+        Yield::Gives { .. } => write(heap, terms.limit, s, value as usize),
         Yield::Halts(why) => s.halt(terms.limit, why),
         Yield::Blocked => s.stuck(),
     }
 }
 
 // The word at the address holds the value on top, a step later.
+#[tactic(auto, unfolding(crate::specs::States::settled_on))]
 fn write(heap: &mut [u64], limit: u64, s: StepState, address: usize) -> StepTurn
     ensures { changed result heap.new ≡ settled_on limit s heap.old (store_gives heap.old s.value s.code address) }
 {

@@ -13,6 +13,7 @@ use yields::Terms;
 
 // A value is put on top, and the one that was there below it: values below the top stand on the stack as words in a heap, the bottom one
 // at address 1. An empty stack has no word to put.
+#[tactic(auto, unfolding(crate::specs::Stack::pushed))]
 pub fn push(stack: &mut [u64], s: StepState, value: u64, code: u64) -> StepTurn
     ensures { changed result stack.new ≡ pushed stack.old s value code }
 {
@@ -25,6 +26,7 @@ pub fn push(stack: &mut [u64], s: StepState, value: u64, code: u64) -> StepTurn
 }
 
 // The value of a variable, by how many lets out it is, the outermost at address 1; int 0 where it is bound nowhere.
+#[tactic(auto, unfolding(crate::specs::Stack::fetched))]
 pub fn fetch(stack: &mut [u64], bound: &[u64], s: StepState, out: usize) -> StepTurn
     ensures { changed result stack.new ≡ fetched stack.old bound.now s out }
 {
@@ -38,6 +40,7 @@ pub fn fetch(stack: &mut [u64], bound: &[u64], s: StepState, out: usize) -> Step
 }
 
 // A malloc: its pointer is put on top.
+#[tactic(auto, unfolding(crate::specs::Stack::allotted))]
 pub fn allot(heap: &mut [u64], stack: &mut [u64], script: &Script, s: StepState, code: u64) -> StepTurn
     ensures { placed_on result heap.new stack.new
         ≡ allotted script.now.structs.now script.now.types.now script.now.terms heap.old stack.old s code }
@@ -51,6 +54,7 @@ pub fn allot(heap: &mut [u64], stack: &mut [u64], script: &Script, s: StepState,
 }
 
 // A node with one part: what it gives takes the place of the value on top.
+#[tactic(auto, unfolding(crate::specs::Stack::applied))]
 pub fn apply(heap: &[u64], script: &Script, s: StepState, task: Task, slot: usize, datum: u64) -> StepTurn
     ensures { result ≡ applied script.now.structs.now script.now.types.now script.now.terms heap.now s task slot datum }
 {
@@ -61,6 +65,7 @@ pub fn apply(heap: &[u64], script: &Script, s: StepState, task: Task, slot: usiz
 }
 
 // A node with two parts: what it gives takes the place of both values.
+#[tactic(auto, unfolding(crate::specs::Stack::joined_row))]
 pub fn join(heap: &mut [u64], stack: &[u64], terms: Terms, s: StepState, o: Act) -> StepTurn
     ensures { changed result heap.new ≡ joined_row terms heap.old stack.now s o }
 {
@@ -75,6 +80,7 @@ pub fn join(heap: &mut [u64], stack: &[u64], terms: Terms, s: StepState, o: Act)
 }
 
 // The value on top is bound, a step, and the one below it is on top.
+#[tactic(auto, unfolding(crate::specs::Stack::bound_next))]
 pub fn bind(bound: &mut [u64], stack: &[u64], limit: u64, s: StepState) -> StepTurn
     ensures { changed result bound.new ≡ bound_next limit stack.now bound.old s }
 {
@@ -97,6 +103,7 @@ pub fn bind(bound: &mut [u64], stack: &[u64], limit: u64, s: StepState) -> StepT
 }
 
 // The innermost bound value is forgotten.
+#[tactic(auto, unfolding(crate::specs::Stack::unbound_next))]
 pub fn unbind(s: StepState) -> StepTurn
     ensures { result ≡ unbound_next s }
 {
@@ -108,6 +115,7 @@ pub fn unbind(s: StepState) -> StepTurn
 }
 
 // The value on top is the whole expression's.
+#[tactic(auto, unfolding(crate::specs::Stack::stopped_at))]
 pub fn stop(s: StepState) -> StepTurn
     ensures { result ≡ stopped_at s }
 {

@@ -18,12 +18,14 @@ pub fn run(heap: &mut [u64], stack: &mut [u64], bound: &mut [u64], script: &Scri
         result heap.new stack.new bound.new }
 {
     let mut s = at_start(script.terms);
-    loop {
+    // Each but the last of these advances takes a step.
+    for _ in 0..=script.terms.limit {
         match advance(heap, stack, bound, script, s) {
             ControlFlow::Continue(next) => s = next,
             ControlFlow::Break(outcome) => return outcome,
         }
     }
+    s.outcome(End::Stuck)
 }
 
 // Where a run starts.
