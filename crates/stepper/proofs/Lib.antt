@@ -2,9 +2,7 @@
 pub mod Close
 pub mod Continuations
 pub mod Advances
-pub mod Others
 pub mod Settled
-pub mod Looks
 pub mod OnePart
 pub mod Listed
 pub mod Fitting

@@ -1,5 +1,6 @@
 -- The code runs the definition: what it answers and the heap that it leaves are those of the run by replacement.
-use Rattle.std.proofs.Common.{◌≡◌, ℕ, zero, suc, ◌+◌, ◌-◌, ◌*◌, ◌^◌, ◌<◌, ◌≤◌, Bool, true, false, List, [], length, refl, ap, ◌∙◌, add-zero, zero-add, add-one, arith, ne_eqb}
+use Rattle.std.proofs.Common.{◌≡◌, ℕ, zero, suc, ◌+◌, ◌-◌, ◌*◌, ◌^◌, ◌<◌, ◌≤◌, Bool, true, false, List, [], length, refl, ap, ◌∙◌, add-zero, zero-add}
+use Rattle.std.proofs.Common.{add-one, arith, ne_eqb}
 use Rattle.cells.specs.Heap.{Heap}
 use Rattle.cells.specs.Lent.{lent}
 use Rattle.cells.specs.declared.Cell.{Cell}

@@ -15,9 +15,10 @@ pub struct Script<'a> {
     pub terms: Terms,
 }
 
-// Where the machine stands: the row that is next; the value on top of the stack with the code of its kind, where there is one; how many
-// values are on the stack, that one included, and how many are bound; whether the row that was looked at lies inside an unchecked block;
-// the steps taken, the number of the first unchecked one, 0 if there was none; and where malloc may start to look.
+// Where the machine stands: the row that is next; the value on top of the stack with the code of its kind; how many values are on the
+// stack, that one included, and how many are bound; whether the row that was looked at lies inside an unchecked block; the steps taken, the
+// number of the first unchecked one, 0 if there was none, as an outcome has it; and where malloc may start to look.
+// Value and code are no Option: on an empty stack a row puts them below its own value unasked, where nobody reads them.
 #[derive(Clone, Copy, Debug, PartialEq, Eq)]
 pub struct StepState {
     pub row: usize,

@@ -27,7 +27,14 @@ pub fn malloc(heap: &mut [u64], script: &Script, s: StepState, code: u64) -> Ste
 
 // The run found is taken, a step later: no run of that size starts lower from now on.
 #[tactic(auto, unfolding(crate::specs::Malloc::room_takes))]
-fn take(heap: &mut [u64], script: &Script, s: StepState, code: u64, size: usize, address: usize) -> StepTurn
+fn take(
+    heap: &mut [u64],
+    script: &Script,
+    s: StepState,
+    code: u64,
+    size: usize,
+    address: usize,
+) -> StepTurn
     ensures { changed result heap.new
         ≡ room_takes script.now.structs.now script.now.types.now script.now.terms.limit heap.old s code size address }
 {
@@ -35,5 +42,9 @@ fn take(heap: &mut [u64], script: &Script, s: StepState, code: u64, size: usize,
         return s.more();
     }
     zero(heap, script.structs, script.types, code, size, address);
-    StepTurn::Steps(s.topped(address as u64, code).hinted(size, address).counted())
+    StepTurn::Steps(
+        s.topped(address as u64, code)
+            .hinted(size, address)
+            .counted(),
+    )
 }

@@ -12,7 +12,14 @@ use yields::{Terms, Yield, field_address, read, sum};
 
 // A node with one part, whose value is on top; the slot and the datum are its row's.
 #[tactic(auto, unfolding(crate::specs::Nodes::one_gives))]
-pub fn one(heap: &[u64], script: &Script, s: StepState, task: Task, slot: usize, datum: u64) -> Yield
+pub fn one(
+    heap: &[u64],
+    script: &Script,
+    s: StepState,
+    task: Task,
+    slot: usize,
+    datum: u64,
+) -> Yield
     ensures { result
         ≡ one_gives script.now.structs.now script.now.types.now script.now.terms.words heap.now s.value s.code task slot datum }
 {

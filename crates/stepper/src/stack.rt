@@ -41,7 +41,13 @@ pub fn fetch(stack: &mut [u64], bound: &[u64], s: StepState, out: usize) -> Step
 
 // A malloc: its pointer is put on top.
 #[tactic(auto, unfolding(crate::specs::Stack::allotted))]
-pub fn allot(heap: &mut [u64], stack: &mut [u64], script: &Script, s: StepState, code: u64) -> StepTurn
+pub fn allot(
+    heap: &mut [u64],
+    stack: &mut [u64],
+    script: &Script,
+    s: StepState,
+    code: u64,
+) -> StepTurn
     ensures { placed_on result heap.new stack.new
         ≡ allotted script.now.structs.now script.now.types.now script.now.terms heap.old stack.old s code }
 {
@@ -55,7 +61,14 @@ pub fn allot(heap: &mut [u64], stack: &mut [u64], script: &Script, s: StepState,
 
 // A node with one part: what it gives takes the place of the value on top.
 #[tactic(auto, unfolding(crate::specs::Stack::applied))]
-pub fn apply(heap: &[u64], script: &Script, s: StepState, task: Task, slot: usize, datum: u64) -> StepTurn
+pub fn apply(
+    heap: &[u64],
+    script: &Script,
+    s: StepState,
+    task: Task,
+    slot: usize,
+    datum: u64,
+) -> StepTurn
     ensures { result ≡ applied script.now.structs.now script.now.types.now script.now.terms heap.now s task slot datum }
 {
     if s.height == 0 {

@@ -13,10 +13,9 @@ impl StepState {
     pub fn topped(self, value: u64, code: u64) -> StepState
         ensures { result ≡ states.topped self value code }
     {
-        // No row stands behind the last number, so this does not wrap there.
-        let row = std::num::wrapping_add_usize(self.row, 1);
         StepState {
-            row,
+            // No row stands behind the last number, so this does not wrap there.
+            row: self.row.wrapping_add(1),
             value,
             code,
             ..self
@@ -56,7 +55,7 @@ impl StepState {
         ensures { result ≡ states.counting self }
     {
         StepState {
-            steps: std::num::wrapping_add_u64(self.steps, 1),
+            steps: self.steps.wrapping_add(1),
             first: self.first_now(),
             ..self
         }
@@ -67,7 +66,7 @@ impl StepState {
         ensures { result ≡ states.first_now self }
     {
         if self.first == 0 && self.inside {
-            std::num::wrapping_add_u64(self.steps, 1)
+            self.steps.wrapping_add(1)
         } else {
             self.first
         }

@@ -58,7 +58,7 @@ pub fn advance(
 ) -> ControlFlow<Outcome, StepState>
     ensures { advanced_to result heap.new stack.new bound.new
         ≡ flow_of (advanced script.now.rows.now script.now.structs.now script.now.types.now script.now.terms (whole_rows script.now.rows.now)
-            s heap.old stack.old bound.old) }
+        s heap.old stack.old bound.old) }
 {
     let mut now = s;
     // Rows without a step go forward, so that there are no more of them than rows, and behind them a row that stops.
@@ -73,6 +73,7 @@ pub fn advance(
 }
 
 // One row.
+#[tactic(auto, unfolding(crate::specs::Turns::row_turn, crate::specs::Stack::task_turn))]
 fn turn(
     heap: &mut [u64],
     stack: &mut [u64],

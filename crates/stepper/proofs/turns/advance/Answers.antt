@@ -1,13 +1,12 @@
 -- The goals of `stepper::turns::advance` that the check leaves.
-use Rattle.std.proofs.Common.{◌≡◌, ℕ, zero, suc, ◌+◌, ◌-◌, ◌<◌, ◌≤◌, List, Continue, Break, sym, ap, ◌∙◌, arith}
-use native.Mathlib.Decide.{dec_lt}
+use Rattle.std.proofs.Common.{◌≡◌, ℕ, zero, suc, ◌+◌, ◌-◌, ◌<◌, List, sym, ap, ◌∙◌, arith}
 use Rattle.calculus.specs.declared.Outcome.{Outcome}
 use Rattle.yields.specs.declared.Terms.{Terms}
 use Rattle.stepper.specs.declared.StepState.{StepState}
 use Rattle.stepper.specs.declared.StepTurn.{StepTurn}
 use Rattle.stepper.specs.declared.StepTurn.TheVariants.{Goes, Steps, Ends}
 use Rattle.stepper.specs.States.{Turned, turned_to}
-use Rattle.stepper.specs.Turns.{row_turn, advanced, advanced_to, flow_of}
+use Rattle.stepper.specs.Turns.{row_turn, advanced, flow_of}
 use Rattle.stepper.proofs.turns.advance.Invariants.{Going}
 use Rattle.stepper.proofs.turns.advance.Goals as goal
 

@@ -1,5 +1,5 @@
 -- The goals of `stepper::turns::run` that the check leaves.
-use Rattle.std.proofs.Common.{◌≡◌, ℕ, zero, suc, ◌+◌, ◌-◌, ◌<◌, ◌≤◌, List, ControlFlow, Continue, Break, sym, ◌∙◌, arith}
+use Rattle.std.proofs.Common.{◌≡◌, ℕ, zero, suc, ◌+◌, ◌-◌, List, ControlFlow, Continue, Break, sym, ◌∙◌, arith}
 use Rattle.calculus.specs.Run.{outcome_of}
 use Rattle.calculus.specs.declared.End.TheVariants.{Stuck}
 use Rattle.calculus.specs.declared.Outcome.{Outcome}
@@ -56,9 +56,9 @@ returns-in-Break c = as_ran (omega arith) (sym (c.loop.invariant ∙ drives_ends
 pub returns : goal.returns
 returns c =
     elim c.loop-test.branch [
-      else-loop-test w ↦ absurd (omega arith)
-    | then-loop-test+in-Continue+else-counter-end w ↦
-        (let k : c.args.script.now.terms.limit - c.loop.counter ≡ 0 = omega arith in
-        rw (c.outcome.ensures, w.heap-is, w.stack-is, w.bound-is, w.s-is)
-        (as_ran (omega arith) (sym ((rw k at c.loop.invariant) ∙ drives_spent _ _ _ _ _ _ _ _ w.advance.ensures w.in-Continue.is))))
+      | else-loop-test w ↦ absurd (omega arith)
+      | then-loop-test+in-Continue+else-counter-end w ↦
+          (let k : c.args.script.now.terms.limit - c.loop.counter ≡ 0 = omega arith in
+          rw (c.outcome.ensures, w.heap-is, w.stack-is, w.bound-is, w.s-is)
+          (as_ran (omega arith) (sym ((rw k at c.loop.invariant) ∙ drives_spent _ _ _ _ _ _ _ _ w.advance.ensures w.in-Continue.is))))
     ]
