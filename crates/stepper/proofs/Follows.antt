@@ -1,5 +1,6 @@
 -- The code's state stands for the model's, and a row does with it what the model's row does.
-use Rattle.std.proofs.Common.{◌≡◌, ℕ, suc, ◌-◌, ◌*◌, ◌/◌, ◌^◌, ◌<◌, ◌≤◌, Bool, false, eqb, leb, List, [], ◌∷◌, length, get_or, sym, refl, ap, ◌∙◌, add-one, arith, le-ltb, ne_eqb, le-leb}
+use Rattle.std.proofs.Common.{◌≡◌, ℕ, suc, ◌-◌, ◌*◌, ◌/◌, ◌^◌, ◌<◌, ◌≤◌, Bool, false, eqb, leb, List, [], ◌∷◌, length, get_or, sym, refl, ap, ◌∙◌}
+use Rattle.std.proofs.Common.{add-one, arith, le-ltb, ne_eqb, le-leb}
 use native.Mathlib.Decide.{dec_le}
 use lib.ListN.{get_or-eq_default}
 use borrow.Author.Tests.{lt-leb}
@@ -229,7 +230,8 @@ module _ {S : Setting} {T : Terms} {ws structs types : List ℕ} (L : OnTerms S 
       f_ended {c = d} {stack = stack} {bound = bound} (rw (ne_eqb (suc (length st)) 0 (omega arith), round_trip k))
 
   -- a row that does its task; only a row that stops may stand behind the last one
-  pub task_follows : {v c : ℕ} (st : List Cell) (t : Task) (slot datum : ℕ) → TopIs stack v c st → ((work_of types t slot datum ≡ stop → ⊥) → p < whole_rows rows)
+  pub task_follows : {v c : ℕ} (st : List Cell) (t : Task) (slot datum : ℕ) → TopIs stack v c st
+      → ((work_of types t slot datum ≡ stop → ⊥) → p < whole_rows rows)
       → RowFits room (length st) (length ρ) datum (work_of types t slot datum)
       → Goal (task_turn structs types T (lent H ws) stack bound (at v c st) t slot datum) (work_move S H (work_of types t slot datum) (inside_mode b) p st ρ)
   unfolding task_turn

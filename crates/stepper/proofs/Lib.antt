@@ -2,10 +2,7 @@
 pub mod Close
 pub mod Continuations
 pub mod Advances
-pub mod Others
 pub mod Settled
-pub mod Looks
-pub mod Onward
 pub mod OnePart
 pub mod Listed
 pub mod Fitting

@@ -1,5 +1,6 @@
 -- The code runs the definition: what it answers and the heap that it leaves are those of the run by replacement.
-use Rattle.std.proofs.Common.{◌≡◌, ℕ, zero, suc, ◌+◌, ◌-◌, ◌*◌, ◌^◌, ◌<◌, ◌≤◌, Bool, true, false, List, [], length, refl, ap, ◌∙◌, add-zero, zero-add, add-one, arith, ne_eqb}
+use Rattle.std.proofs.Common.{◌≡◌, ℕ, zero, suc, ◌+◌, ◌-◌, ◌*◌, ◌^◌, ◌<◌, ◌≤◌, Bool, true, false, List, [], length, refl, ap, ◌∙◌, add-zero, zero-add}
+use Rattle.std.proofs.Common.{add-one, arith, ne_eqb}
 use Rattle.cells.specs.Heap.{Heap}
 use Rattle.cells.specs.Lent.{lent}
 use Rattle.cells.specs.declared.Cell.{Cell}
@@ -18,7 +19,7 @@ use Rattle.stepper.specs.declared.StepTurn.TheVariants.{Steps}
 use Rattle.yields.specs.Malloc.{one_more}
 use Rattle.stepper.specs.States.{Turned, turned_to, state_of, first_by}
 use Rattle.yields.specs.Malloc.{start_hint}
-use Rattle.stepper.specs.Turns.{RunEnd, run_end, after_step, drives, step_run}
+use Rattle.stepper.specs.Turns.{RunEnd, run_end, flow_of, after_step, drives, step_run}
 use Rattle.stepper.specs.Ready.{StepReady}
 use Rattle.stepper.specs.Entry.{RunAs, StepRan}
 use Rattle.stepper.proofs.Continuations.{Sim}
@@ -87,7 +88,7 @@ module _ {S : Setting} {T : Terms} {ws structs types : List ℕ} (L : OnTerms S 
     -- no step is left
     at_end : {r : Turned} {m : Move} {t : Step} (high lets : ℕ) (go : StepState → (ws stack bound : List ℕ) → RunEnd) → T.limit ≤ steps
         → Follows T ws rows H high lets steps first ht r m → MeetsStep types rows room m t
-        → Ends T.words ws (after_step r go) steps first (at_limit H t)
+        → Ends T.words ws (after_step (flow_of r) go) steps first (at_limit H t)
     at_end high lets go l (f_ended q) m_ended =
         rw q (record { outcome_same = rw (add-zero, ← first_none steps first); heap_same = refl; heap_long = long })
     at_end high lets go l (f_stays b q) m_stays =
@@ -101,7 +102,7 @@ module _ {S : Setting} {T : Terms} {ws structs types : List ℕ} (L : OnTerms S 
     -- n steps are left behind this one
     onwards : {r : Turned} {m : Move} {t : Step} (n high lets : ℕ) → T.limit - steps ≡ suc n → Runs n → 2 * room ≤ high → 2 * room ≤ lets
         → Follows T ws rows H high lets steps first ht r m → MeetsStep types rows room m t
-        → Ends T.words ws (after_step r (drives rows structs types T n)) steps first (onward H t (run S n))
+        → Ends T.words ws (after_step (flow_of r) (drives rows structs types T n)) steps first (onward H t (run S n))
     onwards n high lets e ih rs rb (f_ended q) m_ended =
         rw q (record { outcome_same = rw (add-zero, ← first_none steps first); heap_same = refl; heap_long = long })
     onwards n high lets e ih rs rb (f_stays b q) m_stays =

@@ -4,12 +4,22 @@
 #![tactic(auto)]
 
 use calculus::Outcome;
-use yields::Hint;
+use yields::{Hint, Terms};
 
-// Where the machine stands: the row that is next; the value on top of the stack with the code of its kind, where there is one; how many
-// values are on the stack, that one included, and how many are bound; whether the row that was looked at lies inside an unchecked block;
-// the steps taken, the number of the first unchecked one, 0 if there was none; and where malloc may start to look.
+// A script in lent numbers: the rows of its expression, its structs and its word types; and on what terms it is run.
 #[derive(Clone, Copy)]
+pub struct Script<'a> {
+    pub rows: &'a [u64],
+    pub structs: &'a [u64],
+    pub types: &'a [u64],
+    pub terms: Terms,
+}
+
+// Where the machine stands: the row that is next; the value on top of the stack with the code of its kind; how many values are on the
+// stack, that one included, and how many are bound; whether the row that was looked at lies inside an unchecked block; the steps taken, the
+// number of the first unchecked one, 0 if there was none, as an outcome has it; and where malloc may start to look.
+// Value and code are no Option: on an empty stack a row puts them below its own value unasked, where nobody reads them.
+#[derive(Clone, Copy, Debug, PartialEq, Eq)]
 pub struct StepState {
     pub row: usize,
     pub value: u64,
@@ -23,7 +33,8 @@ pub struct StepState {
 }
 
 // What a row comes to: the machine goes on without a step, or after one; or the run ends.
-#[derive(Clone, Copy)]
+// It is no ControlFlow: that would have to tell Goes from Steps by one more enum inside.
+#[derive(Clone, Copy, Debug, PartialEq, Eq)]
 pub enum StepTurn {
     Goes(StepState),
     Steps(StepState),

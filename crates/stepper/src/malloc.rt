@@ -3,52 +3,48 @@ ghost use Rattle.std.specs.Prelude.{◌≡◌};
 ghost use Rattle.stepper.specs.Malloc.{room_takes, room_gives};
 ghost use Rattle.stepper.specs.States.{changed};
 
-use crate::states::{counted, halt, hinted, more, stuck, topped};
-use crate::{StepState, StepTurn};
+use crate::{Script, StepState, StepTurn};
 use calculus::Halt;
 use cells::lowest_run;
 use tables::size_of;
-use yields::{Terms, start, zero};
+use yields::{start, zero};
 
 // Room for the target of a checked pointer: the lowest run of words that is long enough. The pointer's place on the stack is counted.
-pub fn malloc(
-    heap: &mut [u64],
-    structs: &[u64],
-    types: &[u64],
-    terms: Terms,
-    s: StepState,
-    code: u64,
-) -> StepTurn
-    ensures { changed result heap.new ≡ room_gives structs.now types.now terms heap.old s code }
+#[tactic(auto, unfolding(crate::specs::Malloc::room_sized))]
+pub fn malloc(heap: &mut [u64], script: &Script, s: StepState, code: u64) -> StepTurn
+    ensures { changed result heap.new ≡ room_gives script.now.structs.now script.now.types.now script.now.terms heap.old s code }
 {
-    let size = size_of(structs, code);
+    let size = size_of(script.structs, code);
     if size == 0 {
-        return stuck(s);
+        return s.stuck();
     }
-    let hint = s.hint;
-    match lowest_run(heap, size, start(hint, size, terms.low), terms.high) {
-        Some(address) => take(heap, structs, types, terms.limit, s, code, size, address),
-        None => halt(s, terms.limit, Halt::Room),
+    let terms = script.terms;
+    match lowest_run(heap, size, start(s.hint, size, terms.low), terms.high) {
+        Some(address) => take(heap, script, s, code, size, address),
+        None => s.halt(terms.limit, Halt::Room),
     }
 }
 
 // The run found is taken, a step later: no run of that size starts lower from now on.
+#[tactic(auto, unfolding(crate::specs::Malloc::room_takes))]
 fn take(
     heap: &mut [u64],
-    structs: &[u64],
-    types: &[u64],
-    limit: u64,
+    script: &Script,
     s: StepState,
     code: u64,
     size: usize,
     address: usize,
 ) -> StepTurn
-    ensures { changed result heap.new ≡ room_takes structs.now types.now limit heap.old s code size address }
+    ensures { changed result heap.new
+        ≡ room_takes script.now.structs.now script.now.types.now script.now.terms.limit heap.old s code size address }
 {
-    if limit <= s.steps {
-        return more(s);
+    if script.terms.limit <= s.steps {
+        return s.more();
     }
-    zero(heap, structs, types, code, size, address);
-    let taken = hinted(topped(s, address as u64, code), size, address);
-    StepTurn::Steps(counted(taken))
+    zero(heap, script.structs, script.types, code, size, address);
+    StepTurn::Steps(
+        s.topped(address as u64, code)
+            .hinted(size, address)
+            .counted(),
+    )
 }

@@ -27,7 +27,7 @@ pub fn zero(
 {
     for i in 0..size {
         // A run ends within the heap, so this does not wrap there.
-        let a = std::num::wrapping_add_usize(address, i);
+        let a = address.wrapping_add(i);
         put_word(heap, a, 0, type_code(types, word_type(structs, code, i)));
     }
 }

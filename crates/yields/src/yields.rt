@@ -1,6 +1,6 @@
 // Reads, sums and addresses of fields.
 ghost use Rattle.std.specs.Prelude.{◌≡◌, ◌+◌, ◌%◌, ◌^◌};
-ghost use Rattle.yields.specs.Yields.{read_gives, word_gives, sum_gives, field_gives, struct_gives};
+ghost use Rattle.yields.specs.Yields.{read_gives, word_gives, sum_gives, field_gives};
 
 use crate::Yield;
 use calculus::Halt;
@@ -55,24 +55,13 @@ pub fn sum(value: u64, code: u64, k: u64) -> Yield
     }
 }
 
-// The address of a field.
-#[tactic(auto, unfolding(crate::specs::Yields::field_gives))]
+// The address of a field of a struct.
+#[tactic(auto, unfolding(crate::specs::Yields::field_gives, crate::specs::Yields::struct_gives))]
 pub fn field_address(structs: &[u64], f: u64, value: u64, code: u64) -> Yield
     ensures { result ≡ field_gives structs.now f value code }
 {
-    if tag_of(code) == 2 {
-        struct_field(structs, f, value, code, number_of(code))
-    } else {
-        Yield::Blocked
-    }
-}
-
-// The address of a field of the struct with a number.
-#[tactic(auto, unfolding(crate::specs::Yields::struct_gives))]
-fn struct_field(structs: &[u64], f: u64, value: u64, code: u64, of: usize) -> Yield
-    ensures { result ≡ struct_gives structs.now f value code of }
-{
-    if field_count(structs, of) <= f as usize {
+    let of = number_of(code);
+    if tag_of(code) != 2 || field_count(structs, of) <= f as usize {
         return Yield::Blocked;
     }
     if is_checked(code) && value == 0 {
@@ -88,5 +77,5 @@ fn struct_field(structs: &[u64], f: u64, value: u64, code: u64, of: usize) -> Yi
 fn added(n: u64, k: u64) -> u64
     ensures { result ≡ (n + k) % 2 ^ 32 }
 {
-    std::num::wrapping_add_u64(n, k) % 4294967296
+    n.wrapping_add(k) % 4294967296
 }
