@@ -13,14 +13,16 @@ use Rattle.tables.specs.Rows.{head_at, datum_at}
 use Rattle.tables.specs.declared.Task.{Task}
 use Rattle.tables.specs.declared.Task.TheVariants as task
 use Rattle.stepper.specs.declared.StepState.{StepState}
-use Rattle.stepper.specs.declared.StepTerms.{StepTerms}
-use Rattle.stepper.specs.declared.StepYield.{StepYield}
-use Rattle.stepper.specs.declared.StepYield.TheVariants.{Gives, Halts, Blocked}
+use Rattle.yields.specs.declared.Terms.{Terms}
+use Rattle.yields.specs.declared.Yield.{Yield}
+use Rattle.yields.specs.declared.Yield.TheVariants.{Gives, Halts, Blocked}
 use Rattle.stepper.specs.declared.StepTurn.{StepTurn}
 use Rattle.stepper.specs.declared.StepTurn.TheVariants.{Goes, Steps, Ends}
-use Rattle.stepper.specs.States.{Turned, one_more, resized, looked, ends_halt, settled_by, settled_on}
-use Rattle.stepper.specs.Yields.{one_gives, act_gives}
-use Rattle.stepper.specs.Malloc.{room_takes, room_by, room_sized, sought_from}
+use Rattle.yields.specs.Malloc.{one_more, sought_from}
+use Rattle.stepper.specs.States.{Turned, resized, looked, ends_halt, settled_by, settled_on}
+use Rattle.yields.specs.Yields.{act_gives}
+use Rattle.stepper.specs.Nodes.{one_gives}
+use Rattle.stepper.specs.Malloc.{room_takes, room_by, room_sized}
 use Rattle.stepper.specs.Stack.{pushed, fetched, allotted, applied, below_top, joined_row, bound_next, unbound_next, stopped_at, task_turn}
 use Rattle.stepper.specs.Turns.{row_turn, quiet_then, advanced}
 
@@ -44,12 +46,12 @@ within {A} limit n p q = go (dec_le limit n)
 on_halt : (limit : ℕ) (s : StepState) (h : Halt) → Onward limit s.steps (ends_halt limit s h)
 on_halt limit s h = by (leb limit s.steps) (λ e. rw e on_end) (λ e. rw e on_end)
 
-on_settled : (limit : ℕ) (s : StepState) (y : StepYield) → Onward limit s.steps (settled_by limit s y)
+on_settled : (limit : ℕ) (s : StepState) (y : Yield) → Onward limit s.steps (settled_by limit s y)
 on_settled limit s (Gives v c) = within limit s.steps (λ e. rw e on_end) (λ e l. rw e (on_step l refl))
 on_settled limit s (Halts h) = on_halt limit s h
 on_settled limit s Blocked = on_end
 
-module _ (structs types : List ℕ) (T : StepTerms) (ws : List ℕ) (s : StepState) where
+module _ (structs types : List ℕ) (T : Terms) (ws : List ℕ) (s : StepState) where
   on_run : (r : Option ℕ) (code size : ℕ) → Onward T.limit s.steps (room_by r structs types T.limit ws s code size).turn
   unfolding room_takes
   on_run (Some a) code size = within T.limit s.steps (λ e. rw e on_end) (λ e l. rw e (on_step l refl))
@@ -79,7 +81,7 @@ on_bound limit stack bound s =
     (by (leb (whole_words bound) s.lets) (λ f. rw f on_end)
     (λ f. rw f (within limit s.steps (λ g. rw g on_end) (λ g l. rw g (on_step l refl))))))
 
-module _ (structs types : List ℕ) (T : StepTerms) (ws stack bound : List ℕ) (s : StepState) where
+module _ (structs types : List ℕ) (T : Terms) (ws stack bound : List ℕ) (s : StepState) where
   on_allotted : (code : ℕ) → Onward T.limit s.steps (allotted structs types T ws stack s code).turn
   unfolding allotted
   on_allotted code =
@@ -98,7 +100,7 @@ module _ (structs types : List ℕ) (T : StepTerms) (ws stack bound : List ℕ) 
       by (ltb s.height 2) (λ e. rw e on_end)
       (λ e. rw e
       (on_settled T.limit (below_top s)
-      (act_gives T.words ws (below_top s) o (lent_number stack (s.height - 1) 0) (lent_number stack (s.height - 1) 1)).yield))
+      (act_gives T.words ws o s.value s.code (lent_number stack (s.height - 1) 0) (lent_number stack (s.height - 1) 1)).yield))
 
   on_task : (t : Task) (slot datum : ℕ) → Onward T.limit s.steps (task_turn structs types T ws stack bound s t slot datum).turn
   unfolding task_turn unbound_next stopped_at
@@ -114,7 +116,7 @@ module _ (structs types : List ℕ) (T : StepTerms) (ws stack bound : List ℕ) 
   on_task task.Bind slot datum = on_bound T.limit stack bound s
   on_task task.Unbind slot datum = by (eqb s.lets 0) (λ e. rw e on_end) (λ e. rw e (on_quiet refl))
 
-module _ (rows structs types : List ℕ) (T : StepTerms) where
+module _ (rows structs types : List ℕ) (T : Terms) where
   on_row : (ws stack bound : List ℕ) (s : StepState) → Onward T.limit s.steps (row_turn rows structs types T ws stack bound s).turn
   unfolding row_turn
   on_row ws stack bound s =

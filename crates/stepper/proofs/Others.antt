@@ -4,10 +4,10 @@ use Rattle.calculus.specs.declared.Act.{Act}
 use Rattle.tables.specs.declared.Task.{Task}
 use Rattle.tables.specs.declared.Task.TheVariants as task
 use Rattle.stepper.specs.declared.StepState.{StepState}
-use Rattle.stepper.specs.declared.StepTerms.{StepTerms}
-use Rattle.stepper.specs.declared.StepYield.TheVariants.{Blocked}
+use Rattle.yields.specs.declared.Terms.{Terms}
+use Rattle.yields.specs.declared.Yield.TheVariants.{Blocked}
 use Rattle.stepper.specs.States.{turned_to}
-use Rattle.stepper.specs.Yields.{one_gives}
+use Rattle.stepper.specs.Nodes.{one_gives}
 use Rattle.stepper.specs.Stack.{applied, task_turn}
 
 -- the tasks with an arm in each match: the task is none of these, as the last arm is told it; behind them, what the definition says at any other
@@ -41,7 +41,7 @@ pub record OnlyOnePart (t : Task) : Type 0 where
   pub not_unbind : t ≡ task.Unbind → ⊥
   pub not_stop : t ≡ task.Stop → ⊥
 
-pub is_one_part : (structs types : List ℕ) (T : StepTerms) (ws stack bound : List ℕ) (s : StepState) (t : Task) (slot datum : ℕ) → OnlyOnePart t
+pub is_one_part : (structs types : List ℕ) (T : Terms) (ws stack bound : List ℕ) (s : StepState) (t : Task) (slot datum : ℕ) → OnlyOnePart t
     → task_turn structs types T ws stack bound s t slot datum ≡ turned_to (applied structs types T ws s t slot datum) ws stack bound
 unfolding task_turn
 is_one_part structs types T ws stack bound s task.Stop slot datum k = absurd (k.not_stop refl)

@@ -6,11 +6,11 @@ use Rattle.calculus.specs.declared.Outcome.{Outcome}
 use Rattle.tables.specs.Heads.{task_in, inside_in, slot_in}
 use Rattle.tables.specs.Rows.{whole_rows, head_at, datum_at}
 use Rattle.stepper.specs.declared.StepState.{StepState}
-use Rattle.stepper.specs.declared.StepTerms.{StepTerms}
+use Rattle.yields.specs.declared.Terms.{Terms}
 use Rattle.stepper.specs.declared.StepTurn.{StepTurn}
 use Rattle.stepper.specs.declared.StepTurn.TheVariants.{Goes, Steps, Ends}
 use Rattle.stepper.specs.States.{Turned, turned_to, state_of, looked}
-use Rattle.stepper.specs.Malloc.{start_hint}
+use Rattle.yields.specs.Malloc.{start_hint}
 use Rattle.stepper.specs.Stack.{task_turn}
 
 -- what a run answers, and the lent memory that it leaves
@@ -42,10 +42,10 @@ abbrev pub after_step : Turned → (StepState → (ws stack bound : List ℕ) �
 after_step m go = step_then m.turn m.heap m.stack m.bound go
 
 -- where a run starts
-abbrev pub start_state : StepTerms → StepState
+abbrev pub start_state : Terms → StepState
 start_state T = state_of 0 0 0 0 0 false 0 0 (start_hint T)
 
-module _ (rows structs types : List ℕ) (T : StepTerms) where
+module _ (rows structs types : List ℕ) (T : Terms) where
   -- one row
   unfoldable pub row_turn : (ws stack bound : List ℕ) → StepState → Turned
   row_turn ws stack bound s =

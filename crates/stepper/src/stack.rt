@@ -4,12 +4,13 @@ ghost use Rattle.stepper.specs.Stack.{pushed, fetched, allotted, applied, joined
 ghost use Rattle.stepper.specs.States.{changed, placed_on};
 
 use crate::malloc::malloc;
+use crate::nodes::{act, one};
 use crate::states::{counted, done, more, settle, sized, stuck, topped};
-use crate::yields::{act, one};
-use crate::{StepState, StepTerms, StepTurn};
+use crate::{StepState, StepTurn};
 use calculus::Act;
 use cells::{code_at, put_word, value_at};
 use tables::Task;
+use yields::Terms;
 
 // A value is put on top, and the one that was there below it: values below the top stand on the stack as words in a heap, the bottom one
 // at address 1. An empty stack has no word to put.
@@ -43,7 +44,7 @@ pub fn allot(
     stack: &mut [u64],
     structs: &[u64],
     types: &[u64],
-    terms: StepTerms,
+    terms: Terms,
     s: StepState,
     code: u64,
 ) -> StepTurn
@@ -69,7 +70,7 @@ pub fn apply(
     heap: &[u64],
     structs: &[u64],
     types: &[u64],
-    terms: StepTerms,
+    terms: Terms,
     s: StepState,
     task: Task,
     slot: usize,
@@ -88,7 +89,7 @@ pub fn apply(
 }
 
 // A node with two parts: what it gives takes the place of both values.
-pub fn join(heap: &mut [u64], stack: &[u64], terms: StepTerms, s: StepState, o: Act) -> StepTurn
+pub fn join(heap: &mut [u64], stack: &[u64], terms: Terms, s: StepState, o: Act) -> StepTurn
     ensures { changed result heap.new ≡ joined_row terms heap.old stack.now s o }
 {
     let height = s.height;

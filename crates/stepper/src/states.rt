@@ -2,9 +2,10 @@
 ghost use Rattle.std.specs.Prelude.{◌≡◌};
 ghost use Rattle.stepper.specs.States as states;
 
-use crate::{StepHint, StepState, StepTurn, StepYield};
+use crate::{StepState, StepTurn};
 use calculus::{End, Halt, Outcome};
 use cells::{Cell, Kind};
+use yields::{Hint, Yield};
 
 // Another value on top, and the next row.
 pub fn topped(s: StepState, value: u64, code: u64) -> StepState
@@ -75,7 +76,7 @@ pub fn hinted(s: StepState, size: usize, from: usize) -> StepState
         inside: s.inside,
         steps: s.steps,
         first: s.first,
-        hint: StepHint { size, from },
+        hint: Hint { size, from },
     }
 }
 
@@ -114,13 +115,13 @@ fn first(s: StepState) -> u64
 }
 
 // What a node gives is on top, a step later.
-pub fn settle(s: StepState, limit: u64, given: StepYield) -> StepTurn
+pub fn settle(s: StepState, limit: u64, given: Yield) -> StepTurn
     ensures { result ≡ states.settled_by limit s given }
 {
     match given {
-        StepYield::Gives { value, code } => count_within(topped(s, value, code), limit),
-        StepYield::Halts(why) => halt(s, limit, why),
-        StepYield::Blocked => stuck(s),
+        Yield::Gives { value, code } => count_within(topped(s, value, code), limit),
+        Yield::Halts(why) => halt(s, limit, why),
+        Yield::Blocked => stuck(s),
     }
 }
 

@@ -7,9 +7,10 @@ ghost use Rattle.stepper.specs.States.{turned_to};
 
 use crate::stack::{allot, apply, bind, fetch, join, push, stop, unbind};
 use crate::states::looked;
-use crate::{StepHint, StepState, StepTerms, StepTurn};
+use crate::{StepState, StepTurn};
 use calculus::{End, Outcome};
 use tables::{Task, datum_at, head_at, is_inside, slot_of, task_of, type_code};
+use yields::{Hint, Terms};
 
 // Runs the expression of the rows over the heap, on these terms.
 pub fn run(
@@ -19,7 +20,7 @@ pub fn run(
     rows: &[u64],
     structs: &[u64],
     types: &[u64],
-    terms: StepTerms,
+    terms: Terms,
 ) -> Outcome
     ensures { StepRan rows.now structs.now types.now terms heap.old stack.old bound.old result heap.new stack.new bound.new }
 {
@@ -45,7 +46,7 @@ pub fn run(
 }
 
 // Where a run starts.
-pub fn at_start(terms: StepTerms) -> StepState
+pub fn at_start(terms: Terms) -> StepState
     ensures { result ≡ start_state terms }
 {
     StepState {
@@ -57,7 +58,7 @@ pub fn at_start(terms: StepTerms) -> StepState
         inside: false,
         steps: 0,
         first: 0,
-        hint: StepHint {
+        hint: Hint {
             size: 0,
             from: terms.low,
         },
@@ -72,7 +73,7 @@ pub fn advance(
     rows: &[u64],
     structs: &[u64],
     types: &[u64],
-    terms: StepTerms,
+    terms: Terms,
     s: StepState,
 ) -> StepTurn
     ensures { turned_to result heap.new stack.new bound.new
@@ -106,7 +107,7 @@ fn turn(
     rows: &[u64],
     structs: &[u64],
     types: &[u64],
-    terms: StepTerms,
+    terms: Terms,
     from: StepState,
 ) -> StepTurn
     ensures { turned_to result heap.new stack.new bound.new ≡ row_turn rows.now structs.now types.now terms heap.old stack.old bound.old from }

@@ -3,7 +3,7 @@ use Rattle.std.proofs.Common.{◌≡◌, ℕ, suc, ◌-◌, ◌<◌, ◌≤◌, 
 use Rattle.calculus.specs.declared.Outcome.{Outcome}
 use Rattle.tables.specs.Rows.{whole_rows}
 use Rattle.stepper.specs.declared.StepState.{StepState}
-use Rattle.stepper.specs.declared.StepTerms.{StepTerms}
+use Rattle.yields.specs.declared.Terms.{Terms}
 use Rattle.stepper.specs.declared.StepTurn.{StepTurn}
 use Rattle.stepper.specs.declared.StepTurn.TheVariants.{Goes, Steps, Ends}
 use Rattle.stepper.specs.States.{turned_to}
@@ -11,7 +11,7 @@ use Rattle.stepper.specs.Turns.{row_turn, after_quiet, advanced}
 use Rattle.stepper.proofs.turns.advance.Invariants.{Going}
 use Rattle.stepper.proofs.turns.advance.Goals as goal
 
-module _ {heap₀ stack₀ bound₀ rows structs types : List ℕ} {T : StepTerms} {s₀ : StepState} {heap stack bound : List ℕ} {s : StepState} {left : ℕ}
+module _ {heap₀ stack₀ bound₀ rows structs types : List ℕ} {T : Terms} {s₀ : StepState} {heap stack bound : List ℕ} {s : StepState} {left : ℕ}
     (m : Going heap₀ stack₀ bound₀ rows structs types T s₀ heap stack bound s left) where
   -- where a row is left, the rest is that row and then what follows
   opened : 0 < left

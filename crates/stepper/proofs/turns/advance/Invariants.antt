@@ -3,11 +3,11 @@
 use Rattle.std.proofs.Common.{◌≡◌, ℕ, List, length}
 use Rattle.tables.specs.Rows.{whole_rows}
 use Rattle.stepper.specs.declared.StepState.{StepState}
-use Rattle.stepper.specs.declared.StepTerms.{StepTerms}
+use Rattle.yields.specs.declared.Terms.{Terms}
 use Rattle.stepper.specs.Turns.{advanced}
 use Rattle.stepper.proofs.turns.advance.Given as goal
 
-pub record Going (heap₀ stack₀ bound₀ rows structs types : List ℕ) (T : StepTerms) (s₀ : StepState) (heap stack bound : List ℕ) (s : StepState)
+pub record Going (heap₀ stack₀ bound₀ rows structs types : List ℕ) (T : Terms) (s₀ : StepState) (heap stack bound : List ℕ) (s : StepState)
     (left : ℕ) : Type 0 where
   pub same : advanced rows structs types T (whole_rows rows) s₀ heap₀ stack₀ bound₀ ≡ advanced rows structs types T left s heap stack bound
   pub heap_long : length heap ≡ length heap₀

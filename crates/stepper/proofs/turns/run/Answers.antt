@@ -5,7 +5,7 @@ use Rattle.calculus.specs.declared.End.TheVariants.{Stuck}
 use Rattle.calculus.specs.declared.Outcome.{Outcome}
 use Rattle.tables.specs.Rows.{whole_rows}
 use Rattle.stepper.specs.declared.StepState.{StepState}
-use Rattle.stepper.specs.declared.StepTerms.{StepTerms}
+use Rattle.yields.specs.declared.Terms.{Terms}
 use Rattle.stepper.specs.declared.StepTurn.{StepTurn}
 use Rattle.stepper.specs.declared.StepTurn.TheVariants.{Goes, Steps, Ends}
 use Rattle.stepper.specs.States.{turned_to}
@@ -16,7 +16,7 @@ use Rattle.stepper.proofs.Onward.{on_advanced, step_counted}
 use Rattle.stepper.proofs.turns.run.Invariants.{Driving}
 use Rattle.stepper.proofs.turns.run.Goals as goal
 
-module _ {heap₀ stack₀ bound₀ rows structs types : List ℕ} {T : StepTerms} {heap stack bound : List ℕ} {s : StepState}
+module _ {heap₀ stack₀ bound₀ rows structs types : List ℕ} {T : Terms} {heap stack bound : List ℕ} {s : StepState}
     (m : Driving heap₀ stack₀ bound₀ rows structs types T heap stack bound s) {heap' stack' bound' : List ℕ} {r : StepTurn}
     (e : turned_to r heap' stack' bound' ≡ advanced rows structs types T (whole_rows rows) s heap stack bound) where
   -- what the rows up to the next step came to, and then the rest
@@ -66,7 +66,7 @@ module _ {heap₀ stack₀ bound₀ rows structs types : List ℕ} {T : StepTerm
         short = m.short;
       }
 
-start : {heap stack bound rows structs types : List ℕ} {T : StepTerms} → T.limit < 2 ^ 64 → whole_rows rows < 2 ^ 62
+start : {heap stack bound rows structs types : List ℕ} {T : Terms} → T.limit < 2 ^ 64 → whole_rows rows < 2 ^ 62
     → Driving heap stack bound rows structs types T heap stack bound (start_state T)
 unfolding step_run
 start {T = T} l h =

@@ -3,11 +3,11 @@
 use Rattle.std.proofs.Common.{◌≡◌, ℕ, ◌-◌, ◌^◌, ◌<◌, List, length}
 use Rattle.tables.specs.Rows.{whole_rows}
 use Rattle.stepper.specs.declared.StepState.{StepState}
-use Rattle.stepper.specs.declared.StepTerms.{StepTerms}
+use Rattle.yields.specs.declared.Terms.{Terms}
 use Rattle.stepper.specs.Turns.{drives, step_run}
 use Rattle.stepper.proofs.turns.run.Given as goal
 
-pub record Driving (heap₀ stack₀ bound₀ rows structs types : List ℕ) (T : StepTerms) (heap stack bound : List ℕ) (s : StepState) : Type 0 where
+pub record Driving (heap₀ stack₀ bound₀ rows structs types : List ℕ) (T : Terms) (heap stack bound : List ℕ) (s : StepState) : Type 0 where
   pub same : step_run rows structs types T heap₀ stack₀ bound₀ ≡ drives rows structs types T (T.limit - s.steps) s heap stack bound
   pub heap_long : length heap ≡ length heap₀
   pub stack_long : length stack ≡ length stack₀

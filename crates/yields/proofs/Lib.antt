@@ -1,0 +1,4 @@
+-- What the functions rest on, and that what nodes give is what the definition's redexes give.
+pub mod Zeros
+pub mod GivesAs
+pub mod Zeroed
