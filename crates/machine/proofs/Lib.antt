@@ -3,7 +3,7 @@ pub mod Memory
 pub mod Arms
 pub mod Fill
 pub mod Stack
-pub mod Redexes
+pub mod Ready
 pub mod Transitions
 pub mod Simulation
 pub mod Beyond

@@ -1,5 +1,5 @@
 -- Of the lent tables: a row that is not whole is not there; what was put is found again, and all else is as it was.
-use Rattle.std.proofs.Common.{◌≡◌, ℕ, zero, suc, ◌+◌, ◌*◌, ◌/◌, ◌<◌, ◌≤◌, Bool, true, false, not, eqb, ltb, leb, Option, Some, None, List, [], ◌∷◌, length, get_or, set, sym, refl, ◌∙◌, arith, length-set, get_or-set_other, get_or-set_same, le-ltb, lt-ltb, ne_eqb}
+use Rattle.std.proofs.Common.{◌≡◌, ℕ, suc, ◌+◌, ◌*◌, ◌/◌, ◌<◌, ◌≤◌, Bool, true, false, not, eqb, ltb, Option, Some, None, List, length, get_or, set, sym, refl, ◌∙◌, arith, length-set, get_or-set_other, get_or-set_same, le-ltb, lt-ltb, ne_eqb}
 use native.Mathlib.Decide.{dec_lt}
 use lib.ListN.{get_or-eq_default}
 use Rattle.std.specs.Int.{from_bool}
@@ -7,16 +7,14 @@ use Rattle.std.specs.declared.ops.ControlFlow.TheVariants.{Continue, Break}
 use Rattle.choice.specs.Choice.{choose_case}
 use Rattle.cells.specs.Lent.{lent_number, put_word}
 use Rattle.calculus.specs.Operations.{operation_of}
-use Rattle.calculus.specs.Run.{outcome_of}
-use Rattle.calculus.specs.declared.End.TheVariants.{Halted}
-use Rattle.calculus.specs.declared.Halt.{Halt}
 use Rattle.calculus.specs.declared.Operation.{Operation}
 use Rattle.calculus.specs.declared.Operation.TheVariants.{Literal}
 use Rattle.image.specs.Tabled.{Row}
+use Rattle.yields.specs.declared.Yield.{Yield}
+use Rattle.yields.specs.Yields.{given_on}
 use Rattle.machine.specs.declared.Coded.{Coded}
 use Rattle.machine.specs.declared.State.{State}
-use Rattle.machine.specs.declared.Yield.{Yield}
-use Rattle.machine.specs.States.{Turn, over, one_more, first_in, more, halt, contracted, leaving, yielding, written, settled}
+use Rattle.machine.specs.States.{Turn, contracted, leaving, written, settled}
 use Rattle.machine.specs.Tables.{in_row, node, node_at, frame, first_value, frame_at, framed, kept}
 
 -- ---- a row by the one test that finds it
@@ -79,12 +77,6 @@ kept_here t i v l = rw (lt-ltb i (length t / 4) l)
 pub kept_none : (t : List ℕ) (i : ℕ) (v : Coded) → length t / 4 ≤ i → kept t i v ≡ t
 unfolding kept
 kept_none t i v l = rw (le-ltb i (length t / 4) l)
-
--- before the end it does not matter what stands past it
-pub get_d_within : (t : List ℕ) (n a b : ℕ) → n < length t → get_or t n a ≡ get_or t n b
-get_d_within [] n a b l = absurd (omega arith)
-get_d_within (x ∷ t) zero a b l = refl
-get_d_within (x ∷ t) (suc n) a b l = get_d_within t n a b (omega arith)
 
 -- ---- what was put
 pub length_framed : (t : List ℕ) (i node : ℕ) (inside : Bool) → length (framed t i node inside) ≡ length t
@@ -216,8 +208,8 @@ module _ (t : List ℕ) (i : ℕ) (v : Coded) where
         row_before 0 (omega arith),
         row_before 1 (omega arith),
         row_after 2 h
-        ∙ get_or-set_other (set t (4 * i + 2) v.value) (4 * i + 3) (4 * i + 2) v.code 0 (omega arith)
-        ∙ get_or-set_same t (4 * i + 2) v.value 0 (omega arith),
+            ∙ get_or-set_other (set t (4 * i + 2) v.value) (4 * i + 3) (4 * i + 2) v.code 0 (omega arith)
+            ∙ get_or-set_same t (4 * i + 2) v.value 0 (omega arith),
         row_after 3 h ∙ get_or-set_same (set t (4 * i + 2) v.value) (4 * i + 3) v.code 0 (simp length-set (omega arith)),
         ne_eqb v.code 0 n,
       )
@@ -268,15 +260,10 @@ module _ (t : List ℕ) (i value code : ℕ) where
       }
 
 -- ---- the heap where a transition ends the run, or leaves it as it is
-written_same : (r : Turn) (ws : List ℕ) → leaving r ws ≡ written r ws ws
+pub written_same : (r : Turn) (ws : List ℕ) → leaving r ws ≡ written r ws ws
 written_same (Continue s) ws = refl
 written_same (Break o) ws = refl
 
-pub settled_same : (limit : ℕ) (s : State) (y : Yield) (ws : List ℕ) → leaving (contracted limit s y) ws ≡ settled limit s ws (yielding y ws)
+pub settled_same : (limit : ℕ) (s : State) (y : Yield) (ws : List ℕ) → leaving (contracted limit s y) ws ≡ settled limit s ws (given_on y ws)
 unfolding settled
 settled_same limit s y ws = written_same (contracted limit s y) ws
-
-pub halt_kept : (limit : ℕ) (s : State) (h : Halt) (ws ws' : List ℕ) → written (halt limit s h) ws ws' ≡ leaving (halt limit s h) ws
-halt_kept limit s h ws ws' =
-    choose_case (λ (r : Turn). written r ws ws' ≡ leaving r ws) (leb limit s.steps) (λ _. more s)
-    (λ _. over (outcome_of (Halted h) (one_more s.steps) (first_in s))) refl refl

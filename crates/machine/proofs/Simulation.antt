@@ -14,19 +14,21 @@ use Rattle.calculus.specs.declared.End.TheVariants.{Value, Stuck}
 use Rattle.calculus.specs.declared.Halt.{Halt}
 use Rattle.calculus.specs.declared.Outcome.{Outcome}
 use Rattle.image.specs.Shape.{height}
+use Rattle.yields.specs.declared.Hint.{Hint}
+use Rattle.yields.specs.declared.Terms.{Terms}
+use Rattle.yields.specs.Malloc.{one_more, start_hint}
+use Rattle.yields.proofs.GivesAs.{OnTerms}
+use Rattle.yields.proofs.Zeroed.{HintHolds}
 use Rattle.machine.specs.declared.Focus.{Focus}
 use Rattle.machine.specs.declared.Focus.TheVariants.{Node}
-use Rattle.machine.specs.declared.Hint.{Hint}
-use Rattle.machine.specs.declared.Terms.{Terms}
-use Rattle.machine.specs.States.{Moved, moved, state, one_more, first_of}
+use Rattle.machine.specs.States.{Moved, moved, state, first_of}
 use Rattle.machine.specs.States as states
-use Rattle.machine.specs.Malloc.{first_hint}
 use Rattle.machine.specs.Turns.{Finished, finished, after, drive, driven}
 use Rattle.machine.specs.Ready.{Ready}
 use Rattle.machine.specs.Entry.{AsDefined, Stepped}
 use Rattle.machine.proofs.Fill.{fill, fill_none}
 use Rattle.machine.proofs.Stack.{ticks, few_ticks, in_block, Waits, bottom, no_lets}
-use Rattle.machine.proofs.Redexes.{Loaded, HintRight}
+use Rattle.machine.proofs.Ready.{on_terms}
 use Rattle.machine.proofs.Transitions.{SimNodes, at_node, Goes, is_done, is_quiet, is_stuck, is_halt, is_step, goes}
 
 -- the number of the first unchecked step, where s steps with first unchecked step f came before those counted by q
@@ -79,7 +81,7 @@ record Agrees (words : ℕ) (ws : List ℕ) (x : Finished) (steps first : ℕ) (
 record Memory (T : Terms) (R : ℕ) (H : Heap) (ht : Hint) (frames bound : List ℕ) : Type 0 where
   heap_small : SmallHeap H
   heap_long : length H ≡ T.words
-  hint_right : HintRight H T.low ht
+  hint_right : HintHolds H T.low ht
   frames_room : 4 * R ≤ length frames
   bound_room : 2 * R ≤ length bound
 
@@ -101,7 +103,7 @@ step_first x s f m r l a =
       heap_long = a.heap_long;
     }
 
-module _ {S : Setting} {T : Terms} {ws structs types : List ℕ} (L : Loaded S T ws structs types) (table : List ℕ) (R : ℕ) where
+module _ {S : Setting} {T : Terms} {ws structs types : List ℕ} (L : OnTerms S T ws structs types) (table : List ℕ) (R : ℕ) where
   module _ (n : ℕ) (ih : Runs S T ws structs types table R n) (H : Heap) (steps first : ℕ) (ht : Hint) (frames bound : List ℕ)
       (M : Memory T R H ht frames bound) (few : steps + suc n < 2 ^ 63) where
     -- a halt, and a step: at the limit they are not taken
@@ -205,29 +207,17 @@ pub simulated : {S : Setting} {T : Terms} {H : Heap} {e : Expr} {ws heap frames 
     (driven table structs types T heap frames bound).heap
 unfolding driven
 simulated {S} {T} {H} {e} {ws} {heap} {frames} {bound} {table} {structs} {types} short r =
-    let L : Loaded S T ws structs types = record {
-      structs_held = r.structs_held;
-      types_held = r.types_held;
-      fields_small = r.fields_small;
-      types_small = r.types_small;
-      width_is = r.width_is;
-      low_is = r.low_is;
-      high_is = r.high_is;
-      low_above = r.low_above;
-      high_within = r.high_within;
-      heap_room = r.heap_room;
-      words_few = r.words_few;
-    } in
+    let L : OnTerms S T ws structs types = on_terms r in
     let w : Waits table (height e) 0 0 0 e = record { spans = r.nodes_held; scoped = r.expr_scoped; small = r.expr_small; room = omega arith } in
     let s : SimNodes table (height e) (Node 0) 0 0 false frames bound (fill 0 [] e) (0 + ticks e) = at_node bottom no_lets w in
-    let m : Memory T (height e) H (first_hint T) frames bound = record {
+    let m : Memory T (height e) H (start_hint T) frames bound = record {
       heap_small = r.heap_small;
       heap_long = r.heap_long;
       hint_right = record { from_low = omega arith; none = λ k a z p n v. absurd (omega arith) };
       frames_room = r.frames_room;
       bound_room = r.bound_room;
     } in
-    let a = (runs L table (height e) (nodes e) r.nodes_fill (length table)).from H 0 0 (first_hint T) m s (omega (arith, few_ticks e, r.nodes_fill)) (omega arith) in
+    let a = (runs L table (height e) (nodes e) r.nodes_fill (length table)).from H 0 0 (start_hint T) m s (omega (arith, few_ticks e, r.nodes_fill)) (omega arith) in
     let b = rw (fill_none 0 e) at a in
     let z : T.limit - 0 ≡ T.limit = omega arith in
     rw r.heap_held

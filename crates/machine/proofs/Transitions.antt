@@ -25,30 +25,34 @@ use Rattle.calculus.specs.declared.Operation.{Operation}
 use Rattle.calculus.specs.declared.Operation.TheVariants as op
 use Rattle.image.specs.Tabled.{Row, Spans, s_lit, s_var, s_malloc, s_bind, s_one, s_two, one_operation, one_argument, one_kind}
 use Rattle.image.specs.Shape.{Scoped, scoped_var, scoped_bind, scoped_one, scoped_two, SmallExpr, small_lit, small_malloc, small_bind, small_two, height}
+use Rattle.tables.proofs.Held.{size_kind}
+use Rattle.yields.specs.declared.Hint.{Hint}
+use Rattle.yields.specs.declared.Terms.{Terms}
+use Rattle.yields.specs.declared.Yield.{Yield}
+use Rattle.yields.specs.declared.Yield.TheVariants.{Gives}
+use Rattle.yields.specs.Malloc.{one_more, room_hint}
+use Rattle.yields.specs.Yields.{given_on, act_gives}
+use Rattle.yields.proofs.GivesAs.{HeapNext, GivesAs, as_blocked, as_halts, as_gives, OnTerms, act_as}
+use Rattle.yields.proofs.Zeroed.{HintHolds, hint_after, found_as, taken_as, hint_as}
 use Rattle.machine.specs.declared.Coded.{Coded}
 use Rattle.machine.specs.declared.Focus.{Focus}
 use Rattle.machine.specs.declared.Focus.TheVariants as focus
-use Rattle.machine.specs.declared.Hint.{Hint}
 use Rattle.machine.specs.declared.State.{State}
-use Rattle.machine.specs.declared.Terms.{Terms}
-use Rattle.machine.specs.declared.Yield.{Yield}
-use Rattle.machine.specs.declared.Yield.TheVariants.{Gives}
-use Rattle.machine.specs.States.{Leaving, Moved, leaving, moved, on_heap, coded, state, one_more, first_of, stepped, with_value, with_hint, more, contracted, yielding, settled}
+use Rattle.machine.specs.States.{Leaving, Moved, leaving, moved, on_heap, coded, state, first_of, stepped, with_value, with_hint, more, contracted, settled}
 use Rattle.machine.specs.States as states
 use Rattle.machine.specs.Tables.{node, frame, frame_at, framed, kept}
-use Rattle.machine.specs.Yields.{one_yield, acted}
+use Rattle.machine.specs.Redexes.{one_yield}
 use Rattle.machine.specs.Malloc.{room_taken, room_found, room_for, room_at}
 use Rattle.machine.specs.Nodes.{inside_of, variable_at, first_part, entered}
 use Rattle.machine.specs.Values.{second_part, binding, after_first, after_second, resumed_by, handing}
 use Rattle.machine.specs.Turns.{transition}
-use Rattle.machine.proofs.Memory.{settled_same, halt_kept, node_whole, framed_below, kept_below}
+use Rattle.machine.proofs.Memory.{written_same, settled_same, node_whole, framed_below, kept_below}
 use Rattle.machine.proofs.Memory.{frame_put, frame_kept, word_same, length_framed, length_kept}
 use Rattle.calculus.proofs.Contexts.{Hole, plugs, under, context, busy_stuck, busy_halt, busy_next}
 use Rattle.machine.proofs.Fill.{fill, fill_more, fill_bound}
 use Rattle.machine.proofs.Stack.{small_node, small_part, ticks, in_block, held, Waits, Stack, bottom, on_one, on_bound, on_left}
 use Rattle.machine.proofs.Stack.{on_right, on_body, Env, one_let, stack_kept, env_kept, lets_few, env_at, env_small}
-use Rattle.machine.proofs.Redexes.{Matches, m_blocked, m_halts, m_gives, Loaded, HintRight, hint_next}
-use Rattle.machine.proofs.Redexes.{one_matches, act_matches, size_same, found_same, taken_zeros, hint_taken}
+use Rattle.machine.proofs.Ready.{one_as}
 
 -- SimNodes table R focus height lets inside frames bound e left: a machine in such a state holds the expression e, with at most `left`
 -- transitions to a value. There is room for R frames.
@@ -63,7 +67,7 @@ pub data SimNodes (table : List ℕ) (R : ℕ) : Focus → (height lets : ℕ) (
 less : (n : ℕ) → suc n - 1 ≡ n
 less n = omega arith
 
-module _ {S : Setting} {T : Terms} {ws structs types : List ℕ} (L : Loaded S T ws structs types) (table : List ℕ) (R : ℕ) where
+module _ {S : Setting} {T : Terms} {ws structs types : List ℕ} (L : OnTerms S T ws structs types) (table : List ℕ) (R : ℕ) where
   -- What a transition r after so many steps is to the expression e over the heap H: the end, nothing, no rule, a halt or a step.
   pub data Goes (H : Heap) (frames bound : List ℕ) (steps first : ℕ) (ht : Hint) (r : Moved) (e : Expr) (left : ℕ) : Type 0 where
     is_done : {c : Cell} → r ≡ moved (states.over (outcome_of (ends.Value c) steps first)) (lent H ws) frames bound → e ≡ lit c.value c.kind
@@ -78,7 +82,7 @@ module _ {S : Setting} {T : Terms} {ws structs types : List ℕ} (L : Loaded S T
     is_step : {f : Focus} {h lets : ℕ} {x : Bool} {left' : ℕ} {m : Mode} {H' : Heap} {e' : Expr} {frames' bound' : List ℕ} {ht' : Hint}
         → (T.limit ≤ steps → r ≡ moved (states.over (outcome_of ends.More steps first)) (lent H ws) frames bound)
         → (steps < T.limit → r ≡ moved (states.goes (state f h lets x (one_more steps) (first_of steps first (in_block m)) ht')) (lent H' ws) frames' bound')
-        → step S Checked H e ≡ next H' e' m → SmallHeap H' → length H' ≡ length H → HintRight H' T.low ht'
+        → step S Checked H e ≡ next H' e' m → SmallHeap H' → length H' ≡ length H → HintHolds H' T.low ht'
         → length frames' ≡ length frames → length bound' ≡ length bound → SimNodes table R f h lets x frames' bound' e' left' → left' < left
         → Goes H frames bound steps first ht r e left
 
@@ -90,36 +94,35 @@ module _ {S : Setting} {T : Terms} {ws structs types : List ℕ} (L : Loaded S T
       d_gives : {m : Leaving} {H' : Heap} {c : Cell} {r : Hint} → (T.limit ≤ s.steps → m ≡ leaving (more s) (lent H ws))
           → (s.steps < T.limit
           → m ≡ leaving (states.goes (stepped (with_hint (with_value s c.value (packed c.kind)) r.size r.from))) (lent H' ws))
-          → SmallHeap H' → length H' ≡ length H → HintRight H' T.low r → Small c.kind → Does s m (gives H' c.value c.kind)
+          → HeapNext H H' → HintHolds H' T.low r → Small c.kind → Does s m (gives H' c.value c.kind)
 
-    settled_does : {y : Yield} {ws' : List ℕ} {d : Redex} (s : State) → HintRight H T.low s.hint → Matches H ws ws' y d
-        → Does s (settled T.limit s (lent H ws) (yielding y ws')) d
+    settled_does : {y : Yield} {ws' : List ℕ} {d : Redex} (s : State) → HintHolds H T.low s.hint → GivesAs H ws ws' y d
+        → Does s (settled T.limit s (lent H ws) (given_on y ws')) d
     unfolding settled
-    settled_does s k m_blocked = d_blocked
-    settled_does {ws' = ws'} s k (m_halts {h}) = rw (halt_kept T.limit s h (lent H ws) ws') (d_halts {h = h})
-    settled_does {ws' = ws'} s k (m_gives {c} {H'} e n sm) =
+    settled_does s k (as_blocked e) = d_blocked
+    settled_does s k (as_halts {h} e) = rw (e, ← written_same (states.halt T.limit s h) (lent H ws)) (d_halts {h = h})
+    settled_does {ws' = ws'} s k (as_gives {c} {H'} e n sm) =
         d_gives
-        {m = settled T.limit s (lent H ws) (yielding (Gives c.value (packed c.kind)) ws')}
+        {m = settled T.limit s (lent H ws) (given_on (Gives c.value (packed c.kind)) ws')}
         {H' = H'}
         {c = c}
         {r = s.hint}
         (λ l. rw (le-leb T.limit s.steps l))
         (λ l. rw (lt-leb T.limit s.steps l, e))
-        n.small
-        n.long
-        (hint_next n k)
+        n
+        (hint_after n k)
         sm
 
     -- a node with one part leaves the heap as it is
-    contracted_does : {y : Yield} {d : Redex} (s : State) → HintRight H T.low s.hint → Matches H ws (lent H ws) y d
+    contracted_does : {y : Yield} {d : Redex} (s : State) → HintHolds H T.low s.hint → GivesAs H ws (lent H ws) y d
         → Does s (leaving (contracted T.limit s y) (lent H ws)) d
     contracted_does {y} s k m = rw (settled_same T.limit s y (lent H ws)) (settled_does s k m)
 
-    malloc_does : (s : State) (κ : Kind) → HintRight H T.low s.hint → Small κ
+    malloc_does : (s : State) (κ : Kind) → HintHolds H T.low s.hint → Small κ
         → Does s (room_at structs types T (lent H ws) s (packed κ)) (malloc_redex S H κ)
     unfolding room_for room_taken malloc_redex
     malloc_does s κ k sm =
-        rw (size_same L κ sm, found_same L H s.hint (size S κ) hs hl k)
+        rw (size_kind L.setting sm, found_as L H s.hint (size S κ) hs hl k)
         (go (eqb (size S κ) 0) (lowest_in (λ a. undefined (look H a)) (size S κ) S.low S.high) refl)
       where
         go : (b : Bool) (run : Option ℕ) → lowest_in (λ a. undefined (look H a)) (size S κ) S.low S.high ≡ run
@@ -131,21 +134,20 @@ module _ {S : Setting} {T : Terms} {ws structs types : List ℕ} (L : Loaded S T
         go false None e = d_halts
         go false (Some a) e =
             let l = lowest _ (size S κ) S.high S.low a e in
-            let z = taken_zeros L sm hs hl l in
+            let z = taken_as L sm hs hl l in
             d_gives
             {m = room_taken structs types T.limit (lent H ws) s (packed κ) (size S κ) a}
             {H' = zeroed S κ (size S κ) a 0 H}
             {c = cell a κ}
-            {r = states.hint (size S κ) a}
+            {r = room_hint (size S κ) a}
             (λ h. rw (le-leb T.limit s.steps h))
             (λ h. rw (lt-leb T.limit s.steps h, z.held))
-            z.next.small
-            z.next.long
-            (hint_taken L l z)
+            z.next
+            (hint_as L l z)
             sm
 
   module _ (N : ℕ) (whole : length table ≡ 4 * N) (H : Heap) (hs : SmallHeap H) (hl : length H ≡ T.words)
-      (frames bound : List ℕ) (steps first : ℕ) (ht : Hint) (hr : HintRight H T.low ht) where
+      (frames bound : List ℕ) (steps first : ℕ) (ht : Hint) (hr : HintHolds H T.low ht) where
     -- ---- a redex contracts
     contracts : (f : Focus) {h l left : ℕ} {ρ : List Cell} {K : List Hole} {m : Leaving} {d : Redex} {r : Moved} (e : Expr)
         → Stack table R frames h ρ K l → Env bound ρ → step S (under K) H e ≡ redex_step (under K) d
@@ -153,7 +155,7 @@ module _ {S : Setting} {T : Terms} {ws structs types : List ℕ} (L : Loaded S T
         → Goes H frames bound steps first ht r (plugs K e) left
     contracts f {K = K} e s v q d_blocked w l = is_stuck {m = under K} w (context S H K e q busy_stuck)
     contracts f {K = K} e s v q (d_halts {h}) w l = is_halt {h = h} {m = under K} w (context S H K e q busy_halt)
-    contracts f {h} {ρ = ρ} {K = K} e s v q (d_gives {c = c} {r = ht'} q₀ q₁ small long k sm) w l =
+    contracts f {h} {ρ = ρ} {K = K} e s v q (d_gives {c = c} {r = ht'} q₀ q₁ n k sm) w l =
         is_step
         {f = focus.Value (held c)}
         {h = h}
@@ -164,8 +166,8 @@ module _ {S : Setting} {T : Terms} {ws structs types : List ℕ} (L : Loaded S T
         (λ f. w ∙ ap (on_heap frames bound) (q₀ f))
         (λ f. w ∙ ap (on_heap frames bound) (q₁ f))
         (context S H K e q busy_next)
-        small
-        long
+        n.small
+        n.long
         k
         refl
         refl
@@ -196,7 +198,7 @@ module _ {S : Setting} {T : Terms} {ws structs types : List ℕ} (L : Loaded S T
 
       after_act : (j : ℕ) (o : Act) (d : Coded)
           → resumed_by (Some d) structs T (lent H ws) frames bound (state (focus.Value v) (suc h) lets x steps first ht) v (node (op.Acts o) 0 0 j) m
-          ≡ on_heap frames bound (settled T.limit (state (focus.Value v) h lets m steps first ht) (lent H ws) (acted T.words (lent H ws) v o d))
+          ≡ on_heap frames bound (settled T.limit (state (focus.Value v) h lets m steps first ht) (lent H ws) (act_gives T.words (lent H ws) o v.value v.code d.value d.code))
       unfolding after_second
       after_act j o d = rw (less h)
 
@@ -241,7 +243,7 @@ module _ {S : Setting} {T : Terms} {ws structs types : List ℕ} (L : Loaded S T
           s
           v
           refl
-          (contracted_does H hs hl _ hr (one_matches L H hs hl o c so k))
+          (contracted_does H hs hl _ hr (one_as L H hs hl o c so k))
           (look_value h (length ρ) x (held c) e r ∙ after_one h (length ρ) x (in_block (under K)) (held c) o)
           (omega arith)
       handed {ρ = ρ} x c (on_bound {h} {l} {j = j} {K = K} {b = b} s e r w) v k =
@@ -301,7 +303,7 @@ module _ {S : Setting} {T : Terms} {ws structs types : List ℕ} (L : Loaded S T
           s
           v
           refl
-          (settled_does H hs hl _ hr (act_matches L H hs hl o d c kd k))
+          (settled_does H hs hl _ hr (act_as L H hs hl o d c kd k))
           (look_value h (length ρ) x (held c) e r ∙ after_act h (length ρ) x (in_block (under K)) (held c) j o (held d))
           (omega arith)
       handed x c (on_body {h} {j = j} {ρ = ρ} {K = K} {c = d} s e r) (one_let v b kd) k =

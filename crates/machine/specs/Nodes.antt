@@ -6,7 +6,7 @@ use Rattle.calculus.specs.declared.Operation.{Operation}
 use Rattle.calculus.specs.declared.Operation.TheVariants as op
 use Rattle.machine.specs.declared.Node.{Node}
 use Rattle.machine.specs.declared.State.{State}
-use Rattle.machine.specs.declared.Terms.{Terms}
+use Rattle.yields.specs.declared.Terms.{Terms}
 use Rattle.machine.specs.States.{Turn, goes, Leaving, Moved, leaving, moved, on_heap, on_frames, stuck, with_node, with_value, at_height}
 use Rattle.machine.specs.Tables.{node_at, framed}
 use Rattle.machine.specs.Malloc.{room_at}

@@ -1,5 +1,5 @@
 -- The state after a transition, how a run ends, and what a transition leaves of the lent tables.
-use Rattle.std.specs.Prelude.{ℕ, ◌+◌, ◌-◌, ◌%◌, ◌^◌, Bool, List, ◌==◌, nat_le}
+use Rattle.std.specs.Prelude.{ℕ, ◌-◌, Bool, List, ◌==◌, nat_le}
 use Rattle.std.specs.declared.ops.ControlFlow.{ControlFlow}
 use Rattle.std.specs.declared.ops.ControlFlow.TheVariants.{Continue, Break}
 use Rattle.choice.specs.Choice.{choose, both}
@@ -10,13 +10,15 @@ use Rattle.calculus.specs.Run.{outcome_of}
 use Rattle.calculus.specs.declared.Halt.{Halt}
 use Rattle.calculus.specs.declared.End.TheVariants as ends
 use Rattle.calculus.specs.declared.Outcome.{Outcome}
+use Rattle.yields.specs.declared.Hint.{Hint}
+use Rattle.yields.specs.declared.Yield.{Yield}
+use Rattle.yields.specs.declared.Yield.TheVariants.{Gives, Halts, Blocked}
+use Rattle.yields.specs.Yields.{Given}
+use Rattle.yields.specs.Malloc.{one_more, room_hint}
 use Rattle.machine.specs.declared.Coded.{Coded}
 use Rattle.machine.specs.declared.Focus.{Focus}
 use Rattle.machine.specs.declared.Focus.TheVariants as focus
 use Rattle.machine.specs.declared.State.{State}
-use Rattle.machine.specs.declared.Hint.{Hint}
-use Rattle.machine.specs.declared.Yield.{Yield}
-use Rattle.machine.specs.declared.Yield.TheVariants.{Gives, Halts, Blocked}
 
 -- what a transition comes to: the machine goes on, or the run ends
 abbrev pub Turn : Type 0
@@ -34,9 +36,6 @@ turned (Continue s) on ended = on s
 turned (Break o) on ended = ended o
 
 -- ---- states
-abbrev pub hint : (size from : ℕ) → Hint
-hint size from = record { size = size; from = from }
-
 abbrev pub coded : (value code : ℕ) → Coded
 coded value code = record { value = value; code = code }
 
@@ -67,11 +66,7 @@ abbrev pub with_lets : State → (lets : ℕ) → State
 with_lets s lets = state s.focus s.height lets s.inside s.steps s.first s.hint
 
 abbrev pub with_hint : State → (size from : ℕ) → State
-with_hint s size from = state s.focus s.height s.lets s.inside s.steps s.first (hint size from)
-
--- one more, in 64 bits
-abbrev pub one_more : ℕ → ℕ
-one_more n = (n + 1) % 2 ^ 64
+with_hint s size from = state s.focus s.height s.lets s.inside s.steps s.first (room_hint size from)
 
 -- the number of the first unchecked step, where the next one is counted too
 abbrev pub first_of : (steps first : ℕ) → (inside : Bool) → ℕ
@@ -134,19 +129,11 @@ stacked t frames bound = record { turn = t; frames = frames; bound = bound }
 abbrev pub moved : Turn → (heap frames bound : List ℕ) → Moved
 moved t ws frames bound = record { turn = t; heap = ws; frames = frames; bound = bound }
 
--- what a node gives, and the heap that its step leaves
-pub record Yielding : Type 0 where
-  pub yield : Yield
-  pub heap : List ℕ
-
-abbrev pub yielding : Yield → (heap : List ℕ) → Yielding
-yielding y ws = record { yield = y; heap = ws }
-
 -- a table is another one where the machine goes on, and as it was where the run ends
 abbrev pub written : Turn → (t t' : List ℕ) → Leaving
 written r t t' = leaving r (turned r (λ _. t') (λ _. t))
 
-unfoldable pub settled : (limit : ℕ) → State → List ℕ → Yielding → Leaving
+unfoldable pub settled : (limit : ℕ) → State → List ℕ → Given → Leaving
 settled limit s ws g = written (contracted limit s g.yield) ws g.heap
 
 -- the tables that a transition does not change stay as they are

@@ -7,9 +7,9 @@ use Rattle.machine.specs.declared.Coded.{Coded}
 use Rattle.machine.specs.declared.Focus.{Focus}
 use Rattle.machine.specs.declared.Focus.TheVariants.{Node, Value}
 use Rattle.machine.specs.declared.State.{State}
-use Rattle.machine.specs.declared.Terms.{Terms}
+use Rattle.yields.specs.declared.Terms.{Terms}
 use Rattle.machine.specs.States.{turned, Moved, state}
-use Rattle.machine.specs.Malloc.{first_hint}
+use Rattle.yields.specs.Malloc.{start_hint}
 use Rattle.machine.specs.Nodes.{entering}
 use Rattle.machine.specs.Values.{handing}
 
@@ -44,4 +44,4 @@ module _ (nodes structs types : List ℕ) (T : Terms) where
 
   -- a node is entered once, and each of its parts hands back one value: four numbers of the table are one node's, and enough
   unfoldable pub driven : (ws frames bound : List ℕ) → Finished
-  driven ws frames bound = drive (length nodes) (state (Node 0) 0 0 false 0 0 (first_hint T)) ws frames bound
+  driven ws frames bound = drive (length nodes) (state (Node 0) 0 0 false 0 0 (start_hint T)) ws frames bound

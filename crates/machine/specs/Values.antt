@@ -9,11 +9,12 @@ use Rattle.machine.specs.declared.Coded.{Coded}
 use Rattle.machine.specs.declared.Frame.{Frame}
 use Rattle.machine.specs.declared.Node.{Node}
 use Rattle.machine.specs.declared.State.{State}
-use Rattle.machine.specs.declared.Terms.{Terms}
+use Rattle.yields.specs.declared.Terms.{Terms}
 use Rattle.machine.specs.States.{goes, over, turned, Leaving, Stacked, Moved, leaving, stacked, moved, on_heap, on_stack, beside}
 use Rattle.machine.specs.States.{stuck, done, contracted, settled, step_within, with_node, at_height, popped, with_lets}
 use Rattle.machine.specs.Tables.{node_at, frame_at, kept}
-use Rattle.machine.specs.Yields.{one_yield, acted}
+use Rattle.yields.specs.Yields.{act_gives}
+use Rattle.machine.specs.Redexes.{one_yield}
 
 -- by the parts that an operation has: a let's two, two values to act on, or any other
 abbrev pub by_parts : {A : Type 0} → Operation → (Unit {0} → A) → (Act → A) → (Unit {0} → A) → A
@@ -49,7 +50,7 @@ after_first structs T ws frames bound s v n =
 -- it is that of the second part, or of a let's body; d is the first part's
 unfoldable pub after_second : Terms → List ℕ → State → Coded → Operation → (d : Coded) → Leaving
 after_second T ws s v o d =
-    by_parts o (λ _. leaving (goes (with_lets s (s.lets - 1))) ws) (λ a. settled T.limit s ws (acted T.words ws v a d))
+    by_parts o (λ _. leaving (goes (with_lets s (s.lets - 1))) ws) (λ a. settled T.limit s ws (act_gives T.words ws a v.value v.code d.value d.code))
     (λ _. leaving (stuck s) ws)
 
 -- the node n in the topmost frame goes on with the value v

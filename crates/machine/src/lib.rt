@@ -4,18 +4,9 @@
 // cell.
 #![tactic(auto)]
 
-use calculus::{Halt, Operation, Outcome};
+use calculus::{Operation, Outcome};
 use std::ops::ControlFlow;
-
-// On what terms a script is run: how many words the heap has, the lowest and the highest address that malloc may use, and how many steps
-// it may take.
-#[derive(Clone, Copy)]
-pub struct Terms {
-    pub words: usize,
-    pub low: usize,
-    pub high: usize,
-    pub limit: u64,
-}
+use yields::{Hint, Terms};
 
 // The lent tables that hold a script, and on what terms it is run.
 #[derive(Clone, Copy)]
@@ -53,13 +44,6 @@ pub struct State {
     pub hint: Hint,
 }
 
-// Words are never freed: no run of `size` undefined words, or of more, starts below `from`.
-#[derive(Clone, Copy)]
-pub struct Hint {
-    pub size: usize,
-    pub from: usize,
-}
-
 // A node as its row has it: what it does, its argument, the code of its kind or target, and the number of its second part.
 #[derive(Clone, Copy)]
 pub struct Node {
@@ -78,23 +62,15 @@ pub struct Frame {
     pub first: Option<Coded>,
 }
 
-// What a node gives once its parts are values: a value with the code of its kind, a halt, or that no rule fits.
-#[derive(Clone, Copy)]
-pub enum Yield {
-    Gives { value: u64, code: u64 },
-    Halts(Halt),
-    Blocked,
-}
-
 // What a transition comes to: the machine goes on, or the run ends.
 pub type Turn = ControlFlow<Outcome, State>;
 
 mod malloc;
 mod nodes;
+mod redexes;
 mod states;
 mod tables;
 mod turns;
 mod values;
-mod yields;
 
 pub use turns::run;

@@ -3,10 +3,11 @@ ghost use Rattle.std.specs.Prelude.{◌≡◌};
 ghost use Rattle.calculus.specs.Run.{outcome_of};
 ghost use Rattle.machine.specs.States as states;
 
-use crate::{Coded, Focus, State, Turn, Yield};
+use crate::{Coded, Focus, State, Turn};
 use calculus::{End, Halt, Outcome};
-use cells::{Cell, Kind};
+use cells::Cell;
 use std::ops::ControlFlow;
+use yields::Yield;
 
 impl State {
     // A value is in focus.

@@ -6,9 +6,10 @@ ghost use Rattle.machine.specs.Entry.{Stepped};
 
 use crate::nodes::enter;
 use crate::values::resume;
-use crate::{Focus, Hint, Script, State, Terms, Turn};
+use crate::{Focus, Script, State, Turn};
 use calculus::{End, Outcome};
 use std::ops::ControlFlow;
+use yields::{Hint, Terms};
 
 // Runs the expression of the node table over the heap, on these terms.
 pub fn run(

@@ -3,12 +3,13 @@ ghost use Rattle.std.specs.Prelude.{◌≡◌};
 ghost use Rattle.machine.specs.Values.{handing, after_first, after_second, binding, second_part};
 ghost use Rattle.machine.specs.States.{leaving, moved, stacked};
 
+use crate::redexes::{act, one};
 use crate::tables::{frame_at, keep, node_at};
-use crate::yields::{act, one};
-use crate::{Coded, Focus, Node, Script, State, Terms, Turn};
+use crate::{Coded, Focus, Node, Script, State, Turn};
 use calculus::Operation;
 use cells::put_word;
 use std::ops::ControlFlow;
+use yields::Terms;
 
 #[tactic(auto, unfolding(crate::specs::Values::handing))]
 pub fn resume(

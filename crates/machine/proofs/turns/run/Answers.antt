@@ -5,9 +5,9 @@ use Rattle.calculus.specs.declared.End.TheVariants.{Stuck}
 use Rattle.calculus.specs.declared.Outcome.{Outcome}
 use Rattle.machine.specs.declared.Focus.TheVariants.{Node}
 use Rattle.machine.specs.declared.State.{State}
-use Rattle.machine.specs.declared.Terms.{Terms}
+use Rattle.yields.specs.declared.Terms.{Terms}
 use Rattle.machine.specs.States.{Turn, goes, over, moved, state}
-use Rattle.machine.specs.Malloc.{first_hint}
+use Rattle.yields.specs.Malloc.{start_hint}
 use Rattle.machine.specs.Turns.{finished, after, transition, drive, driven}
 use Rattle.machine.proofs.Simulation.{as_stepped}
 use Rattle.machine.proofs.turns.run.Invariants.{Driving}
@@ -44,7 +44,7 @@ module _ {heap₀ frames₀ bound₀ nodes structs types : List ℕ} {T : Terms}
       }
 
 start : {heap frames bound nodes structs types : List ℕ} {T : Terms} {n : ℕ} → n ≡ length nodes
-    → Driving heap frames bound nodes structs types T heap frames bound (state (Node 0) 0 0 false 0 0 (first_hint T)) n
+    → Driving heap frames bound nodes structs types T heap frames bound (state (Node 0) 0 0 false 0 0 (start_hint T)) n
 unfolding driven
 start e = record { same = rw e; heap_long = refl; frames_long = refl; bound_long = refl }
 

@@ -2,7 +2,7 @@
 -- whole gives. Assumes nothing.
 use Rattle.std.proofs.Common.{◌≡◌, ℕ, ◌-◌, List, length}
 use Rattle.machine.specs.declared.State.{State}
-use Rattle.machine.specs.declared.Terms.{Terms}
+use Rattle.yields.specs.declared.Terms.{Terms}
 use Rattle.machine.specs.Turns.{drive, driven}
 use Rattle.machine.proofs.turns.run.Given as goal
 
