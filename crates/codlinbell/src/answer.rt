@@ -10,7 +10,8 @@ use calculus::Outcome;
 use cells::{clear, heap_words};
 use image::load;
 use judge::judge_script;
-use machine::{Terms, run};
+use machine::run;
+use yields::Terms;
 
 // The steps that a run may take where no limit is named.
 pub const DEFAULT_LIMIT: u64 = 100000;

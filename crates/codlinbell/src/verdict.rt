@@ -4,9 +4,9 @@ ghost use Rattle.judge.specs.Script.{as_verdict};
 ghost use Rattle.codlinbell.specs.Answered.{announced};
 ghost use Rattle.codlinbell.specs.Prepared.{LongTables};
 
-use image::load;
 use calculus::Refusal;
 use cells::Kind;
+use image::load;
 use judge::judge_script;
 
 // The verdict on the image over a heap of `words` words, of which at most 4,096 are used.
