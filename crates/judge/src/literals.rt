@@ -5,7 +5,7 @@ ghost use Rattle.judge.specs.Marks.{seen};
 ghost use Rattle.judge.specs.Literals.{span, claim, look_fields, look_alike, look_at, literal_look, is_literal, node_look, first_bad, looking, found};
 
 use crate::addresses::covered;
-use crate::marks::{mark, mark_at, put_mark, wipe};
+use crate::marks::{mark, mark_at, put_mark};
 use crate::rows::{entry, operation_at, row};
 use calculus::Operation;
 use cells::word;
@@ -50,14 +50,12 @@ fn look_fields(
         (seen marks.old queue.old tail) }
 {
     let mut end = tail;
-    let mut i = 0;
-    while i < count {
+    for i in 0..count {
         let kind = claim(structs, types, code, i);
         if entry(cells, first + i, 2) != kind {
             return None;
         }
         end = mark(marks, queue, end, first + i, kind, 1);
-        i += 1;
     }
     Some(end)
 }
@@ -206,16 +204,14 @@ pub fn first_bad(
         ≡ first_bad structs.now types.now cells.now nodes.now
         marks.old queue.old }
 {
-    wipe(marks);
+    marks.fill(0);
     let count = nodes.len() / 4;
     let mut tail = 0;
-    let mut i = 0;
-    while i < count {
+    for i in 0..count {
         let Some(next) = node_look(marks, queue, structs, types, cells, nodes, tail, i) else {
             return i;
         };
         tail = next;
-        i += 1;
     }
     count
 }
