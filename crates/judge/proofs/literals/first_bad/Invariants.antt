@@ -37,4 +37,4 @@ module _ (structs types cells nodes : List ℕ) where
 
 abbrev pub invariant-loop-i : goal.invariant-loop-i
 invariant-loop-i l =
-    Passing l.structs l.types l.cells l.nodes (pass l.structs l.types l.cells l.nodes l.count 0 (seen l.initial.marks l.initial.queue 0)) l.count l.marks l.queue l.tail l.i
+    Passing l.script.structs.now l.script.types.now l.script.cells.now l.script.nodes.now (pass l.script.structs.now l.script.types.now l.script.cells.now l.script.nodes.now l.count 0 (seen l.initial.marks l.initial.queue 0)) l.count l.marks l.queue l.tail l.i

@@ -49,15 +49,15 @@ module _ {structs types cells : List ℕ} {start : Looking} {marks queue : List 
               same = f ∙ rw (← e, lt-ltb head next h, is_held_lem, is_kind, is-j);
             }
 
-pub loop-next-init : goal.loop-next-init
+pub loop-end-init : goal.loop-end-init
 unfolding literal_look
-loop-next-init c = record { ends = c.requires; deep = length c.args.queue.now; enough = omega arith; same = refl }
+loop-end-init c = record { ends = c.requires; deep = length c.args.queue.now; enough = omega arith; same = refl }
 
-pub returns-then-next-head : goal.returns-then-next-head
-returns-then-next-head c = done c.loop-next.invariant (rw c.in_ok-next.was at c.look_at.ensures) c.if-next-head.true
+pub returns-then-end-head : goal.returns-then-end-head
+returns-then-end-head c = done c.loop-end.invariant (rw c.in_ok-end.was at c.look_at.ensures) c.if-end-head.true
 
-pub loop-next-smaller : goal.loop-next-smaller
-loop-next-smaller c = let l = still c.loop-next.invariant (rw c.in_ok-next.was at c.look_at.ensures) in omega (arith, l, c.if-next-head.false, c.look_at.auto.queue, c.loop-next.auto.queue)
+pub loop-end-smaller : goal.loop-end-smaller
+loop-end-smaller c = let l = still c.loop-end.invariant (rw c.in_ok-end.was at c.look_at.ensures) in omega (arith, l, c.if-end-head.false, c.look_at.auto.queue, c.loop-end.auto.queue)
 
-pub loop-next-preserved : goal.loop-next-preserved
-loop-next-preserved c = turn c.loop-next.invariant (rw c.in_ok-next.was at c.look_at.ensures) c.if-next-head.false c.look_at.auto.queue c.word-j.ensures c.entry-held.ensures c.entry-kind.ensures
+pub loop-end-preserved : goal.loop-end-preserved
+loop-end-preserved c = turn c.loop-end.invariant (rw c.in_ok-end.was at c.look_at.ensures) c.if-end-head.false c.look_at.auto.queue c.word-j.ensures c.entry-held.ensures c.entry-kind.ensures

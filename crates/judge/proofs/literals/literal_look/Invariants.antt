@@ -15,9 +15,9 @@ pub record Draining (structs types cells : List ℕ) (start : Looking) (marks qu
   pub enough : length queue ≤ head + deep
   pub same : start ≡ then_look (look_at structs types cells held kind (seen marks queue end)) (drain structs types cells deep head)
 
-abbrev pub invariant-loop-next : goal.invariant-loop-next
-invariant-loop-next l =
-    Draining l.structs l.types l.cells (literal_look l.structs l.types l.cells l.value l.code (seen l.initial.marks l.initial.queue l.tail)) l.marks l.queue l.head l.end l.held l.kind
+abbrev pub invariant-loop-end : goal.invariant-loop-end
+invariant-loop-end l =
+    Draining l.script.structs.now l.script.types.now l.script.cells.now (literal_look l.script.structs.now l.script.types.now l.script.cells.now l.value l.code (seen l.initial.marks l.initial.queue l.tail)) l.marks l.queue l.head l.end l.held l.kind
 
-abbrev pub decreases-loop-next : goal.decreases-loop-next
-decreases-loop-next l = length l.initial.queue - l.head
+abbrev pub decreases-loop-end : goal.decreases-loop-end
+decreases-loop-end l = length l.initial.queue - l.head

@@ -16,7 +16,7 @@ pub record Passing (cells : List ℕ) (code stop : ℕ) (start : Looking) (marks
 
 abbrev pub invariant-loop-left : goal.invariant-loop-left
 invariant-loop-left l =
-    Passing l.cells l.code (l.first + l.count) (look_alike l.cells l.code l.count l.count l.first (seen l.initial.marks l.initial.queue l.tail)) l.marks l.queue l.end l.j l.left
+    Passing l.script.cells.now l.code (l.first + l.count) (look_alike l.script.cells.now l.code l.count l.count l.first (seen l.initial.marks l.initial.queue l.tail)) l.marks l.queue l.end l.j l.left
 
 abbrev pub decreases-loop-left : goal.decreases-loop-left
 decreases-loop-left l = l.left

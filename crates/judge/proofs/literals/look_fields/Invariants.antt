@@ -12,4 +12,4 @@ pub record Passing (structs types cells : List ℕ) (code first count : ℕ) (st
 
 abbrev pub invariant-loop-i : goal.invariant-loop-i
 invariant-loop-i l =
-    Passing l.structs l.types l.cells l.code l.first l.count (look_fields l.structs l.types l.cells l.code l.first l.count 0 (seen l.initial.marks l.initial.queue l.tail)) l.marks l.queue l.end l.i
+    Passing l.script.structs.now l.script.types.now l.script.cells.now l.code l.first l.count (look_fields l.script.structs.now l.script.types.now l.script.cells.now l.code l.first l.count 0 (seen l.initial.marks l.initial.queue l.tail)) l.marks l.queue l.end l.i
