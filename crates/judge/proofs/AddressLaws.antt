@@ -9,8 +9,9 @@ use Prim.Native.Nat.{ℕ, zero, suc, ◌+◌, ◌-◌, ◌≤◌, ◌<◌}
 use native.Mathlib.Nat.{eq-or-lt_of_le, le_antisymm}
 use native.Mathlib.Omega.{arith}
 use lib.Dec.{eqb, ltb, leb}
-use borrow.Author.Tests.{ltb-true, ltb-false, lt-leb, leb-true, leb-false, eqb-true, eq-eqb}
-use Rattle.choice.specs.Choice.{choose, choose_told}
+use borrow.Author.Tests.{ltb-true, ltb-false, lt-ltb, leb-true, leb-false, eqb-true, eq-eqb}
+use Rattle.choice.specs.Choice.{choose, both, choose_told}
+use Rattle.calculus.proofs.Same.{as_true}
 use Rattle.judge.specs.Rows.{entry_at}
 use Rattle.judge.specs.Addresses.{middle, entries, lowest_from, place, present, covered}
 use Rattle.judge.proofs.Lists.{has_number}
@@ -107,19 +108,15 @@ module _ (cells : List ℕ) (rising : (i j : ℕ) → i < j → j < entries cell
 
   present_each : (v more j : ℕ) → present cells (entries cells) j v more ≡ true → Consecutive v more j
   unfolding present
-  present_each v more j = go (leb (entries cells) j) (leb (entries cells - j) more) (eqb (entry_at cells j 0) v)
-      (leb-false (entries cells) j) (leb-false (entries cells - j) more) (eqb-true (entry_at cells j 0) v)
+  present_each v more j = go (ltb more (entries cells - j)) (eqb (entry_at cells j 0) v)
+      (ltb-true more (entries cells - j)) (eqb-true (entry_at cells j 0) v)
     where
-      go : (r s t : Bool) → (r ≡ false → j < entries cells) → (s ≡ false → more < entries cells - j) → (t ≡ true → entry_at cells j 0 ≡ v)
-          → (choose r (λ _. false) λ _.
-          choose s (λ _. false) λ _.
-          choose t (λ _. eqb (entry_at cells (j + more) 0 - v) more) (λ _. false)) ≡ true
-          → Consecutive v more j
-      go true s t f g h e = absurd (let z : ◌≡◌ {A = ℕ} 0 1 = cc in omega arith)
-      go false true t f g h e = absurd (let z : ◌≡◌ {A = ℕ} 0 1 = cc in omega arith)
-      go false false false f g h e = absurd (let z : ◌≡◌ {A = ℕ} 0 1 = cc in omega arith)
-      go false false true f g h e =
-          let b : j + more < entries cells = omega (arith, f refl, g refl) in
+      go : (s t : Bool) → (s ≡ true → more < entries cells - j) → (t ≡ true → entry_at cells j 0 ≡ v)
+          → both s (both t (eqb (entry_at cells (j + more) 0 - v) more)) ≡ true → Consecutive v more j
+      go false t g h e = absurd (as_true e)
+      go true false g h e = absurd (as_true e)
+      go true true g h e =
+          let b : j + more < entries cells = omega (arith, g refl) in
           let d : entry_at cells (j + more) 0 - v ≡ more = eqb-true _ _ e in
           record {
             below = b;
@@ -162,8 +159,7 @@ module _ (cells : List ℕ) (rising : (i j : ℕ) → i < j → j < entries cell
       let (b, s) = consecutive v more all e more (omega arith) in
       rw (
         sought_at v e,
-        lt-leb (entries cells) e.index e.below,
-        lt-leb (entries cells - e.index) more (omega arith),
+        lt-ltb more (entries cells - e.index) (omega arith),
         eq-eqb (entry_at cells e.index 0) v e.is,
         eq-eqb (entry_at cells (e.index + more) 0 - v) more (omega arith),
       )

@@ -8,8 +8,9 @@ use Prim.Native.Nat.{ℕ, zero, suc, ◌+◌, ◌-◌, ◌≤◌, ◌<◌}
 use native.Mathlib.Omega.{arith}
 use lib.Dec.{eqb, ltb, leb}
 use lib.ListN.{length, length-set, get_or, set}
-use borrow.Author.Tests.{ltb-true, leb-false}
-use Rattle.choice.specs.Choice.{choose, choose_case, choose_told}
+use borrow.Author.Tests.{ltb-true}
+use Rattle.choice.specs.Choice.{both, choose_case, choose_told}
+use Rattle.calculus.proofs.Same.{as_true}
 use Rattle.tables.specs.Kinds.{code_checked, code_tag}
 use Rattle.judge.specs.Rows.{entry_at, node_number, operation_at}
 use Rattle.judge.specs.Addresses.{present, covered, entries, place}
@@ -20,16 +21,11 @@ use Rattle.judge.specs.Literals.{is_literal, node_look, then_look}
 -- ---- the words that are found
 present_fits : (cells : List ℕ) (n j address more : ℕ) → present cells n j address more ≡ true → j + more < n
 unfolding present
-present_fits cells n j address more = go (leb n j) (leb (n - j) more) (leb-false n j) (leb-false (n - j) more)
+present_fits cells n j address more = go (ltb more (n - j)) _ (ltb-true more (n - j))
   where
-    go : (s t : Bool) → (s ≡ false → j < n) → (t ≡ false → more < n - j)
-        → (choose s (λ _. false) λ _.
-        choose t (λ _. false) λ _.
-        choose (eqb (entry_at cells j 0) address) (λ _. eqb (entry_at cells (j + more) 0 - address) more) (λ _. false)) ≡ true
-        → j + more < n
-    go true t f g e = absurd (let z : ◌≡◌ {A = ℕ} 0 1 = cc in omega arith)
-    go false true f g e = absurd (let z : ◌≡◌ {A = ℕ} 0 1 = cc in omega arith)
-    go false false f g e = omega (arith, f refl, g refl)
+    go : (t u : Bool) → (t ≡ true → more < n - j) → both t u ≡ true → j + more < n
+    go true u f e = omega (arith, f refl)
+    go false u f e = absurd (as_true e)
 
 -- the `more` words behind the entry that is found are in the table
 pub covered_fits : (cells : List ℕ) (address more j : ℕ) → covered cells address more ≡ Some j → j + more < entries cells

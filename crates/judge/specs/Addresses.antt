@@ -1,6 +1,6 @@
 -- Finding addresses in the cell table: a guess and the search by halves, and consecutive words by one comparison.
-use Rattle.std.specs.Prelude.{ℕ, zero, suc, ◌+◌, ◌-◌, ◌/◌, Bool, false, List, Option, Some, None, eqb, ltb, leb, length}
-use Rattle.choice.specs.Choice.{choose}
+use Rattle.std.specs.Prelude.{ℕ, zero, suc, ◌+◌, ◌-◌, ◌/◌, Bool, List, Option, Some, None, eqb, ltb, length}
+use Rattle.choice.specs.Choice.{choose, both}
 use Rattle.judge.specs.Rows.{entry_at}
 
 abbrev pub middle : ℕ → ℕ → ℕ
@@ -24,9 +24,7 @@ place cells n address =
 -- entry j, of n, has this address, and the entry `more` further on has an address that much higher
 unfoldable pub present : (cells : List ℕ) (n j address more : ℕ) → Bool
 present cells n j address more =
-    choose (leb n j) (λ _. false) λ _.
-    choose (leb (n - j) more) (λ _. false) λ _.
-    choose (eqb (entry_at cells j 0) address) (λ _. eqb (entry_at cells (j + more) 0 - address) more) (λ _. false)
+    both (ltb more (n - j)) (both (eqb (entry_at cells j 0) address) (eqb (entry_at cells (j + more) 0 - address) more))
 
 abbrev pub entries : List ℕ → ℕ
 entries cells = length cells / 3

@@ -1,10 +1,11 @@
 // An address in the cell table, whose addresses rise.
-ghost use Rattle.std.specs.Prelude.{◌+◌, ◌<◌, ◌-◌, ◌≡◌};
+ghost use Rattle.std.specs.Prelude.{◌≡◌};
 ghost use Rattle.judge.specs.Addresses.{lowest_from, place, present, covered};
 
 use crate::rows::entry;
 
-// The first of n entries whose address is at least this one, n if there is none.
+// The first of n entries whose address is at least this one, n if there is none. `partition_point` isn't used: of a table whose addresses
+// don't rise it says nothing, and the contract speaks of every table.
 fn lowest_from(cells: &[u64], n: usize, address: u64) -> usize
     ensures { result ≡ lowest_from cells.now address n 0 n }
 {
@@ -40,8 +41,7 @@ fn place(cells: &[u64], n: usize, address: u64) -> usize
 fn present(cells: &[u64], n: usize, j: usize, address: u64, more: usize) -> bool
     ensures { result ≡ present cells.now n j address more }
 {
-    j < n
-        && more < n - j
+    more < n.saturating_sub(j)
         && entry(cells, j, 0) == address
         && entry(cells, j + more, 0).saturating_sub(address) == more as u64
 }

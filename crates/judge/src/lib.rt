@@ -16,8 +16,18 @@ mod parts;
 mod rows;
 mod rules;
 
-// The verdict on the script in the lent tables: its type, or the fault with the number of the node that has it. `marks` has a number for each entry of the cell table, `queue` as many, `bound` one for each
-// let that the expression nests.
+// The lent tables that hold a script. Loops take them by value, since the compiler then keeps the slices in registers, and the recursion
+// by reference.
+#[derive(Clone, Copy)]
+struct Script<'a> {
+    structs: &'a [u64],
+    types: &'a [u64],
+    cells: &'a [u64],
+    nodes: &'a [u64],
+}
+
+// The verdict on the script in the lent tables: its type, or the fault with the number of the node that has it. `marks` has a number for
+// each entry of the cell table, `queue` as many, `bound` one for each let that the expression nests.
 pub fn judge_script(
     structs: &[u64],
     types: &[u64],
@@ -31,17 +41,14 @@ pub fn judge_script(
         marks.old queue.old bound.old
         result marks.new queue.new bound.new }
 {
-    let first = first_bad(marks, queue, structs, types, cells, nodes);
-    let code = judge_node(
-        bound,
-        nodes.len() / 4,
+    let script = Script {
         structs,
         types,
+        cells,
         nodes,
-        first,
-        0,
-        Mode::Checked,
-        0,
-    )?;
+    };
+    let good = first_bad(marks, queue, script);
+    let left = nodes.len() / 4;
+    let code = judge_node(bound, left, &script, good, false, 0, Mode::Checked, 0)?;
     Ok(Kind::from(code))
 }

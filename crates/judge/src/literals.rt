@@ -2,10 +2,11 @@
 // and what was queued is looked at in turn. Marks stay from literal to literal: what was found good stays good.
 ghost use Rattle.std.specs.Prelude.{◌+◌, ◌<◌, ◌≤◌, ◌^◌, ◌≡◌, length};
 ghost use Rattle.judge.specs.Marks.{seen};
-ghost use Rattle.judge.specs.Literals.{span, claim, look_fields, look_alike, look_at, literal_look, is_literal, node_look, first_bad, looking, found};
+ghost use Rattle.judge.specs.Literals.{span, claim, look_fields, look_alike, look_at, literal_look, node_look, first_bad, looking, found};
 
+use crate::Script;
 use crate::addresses::covered;
-use crate::marks::{mark, mark_at, put_mark, wipe};
+use crate::marks::{mark, mark_at, put_mark};
 use crate::rows::{entry, operation_at, row};
 use calculus::Operation;
 use cells::word;
@@ -13,32 +14,30 @@ use tables::{is_checked, size_of, tag_of, type_code, word_type};
 
 // How many words a literal needs: those that its target covers, if it is a checked pointer other than 0.
 #[tactic(auto, unfolding(crate::specs::Literals::span))]
-fn span(structs: &[u64], value: u64, code: u64) -> usize
-    ensures { result ≡ span structs.now value code }
+fn span(script: Script, value: u64, code: u64) -> usize
+    ensures { result ≡ span script.entry.structs.now value code }
 {
     if value != 0 && is_checked(code) {
-        size_of(structs, code)
+        size_of(script.structs, code)
     } else {
         0
     }
 }
 
 // The code that a pointer's i-th word has to have.
-fn claim(structs: &[u64], types: &[u64], code: u64, i: usize) -> u64
-    ensures { result ≡ claim structs.now types.now code i }
+fn claim(script: Script, code: u64, i: usize) -> u64
+    ensures { result ≡ claim script.entry.structs.now script.entry.types.now code i }
 {
-    type_code(types, word_type(structs, code, i))
+    type_code(script.types, word_type(script.structs, code, i))
 }
 
-// `count` entries from `first` on have the codes that a pointer to a struct claims: then they are marked. Answers where the queue then
-// ends; nothing if a word has another code. So do the functions below. Fields are few and each has a code
-// of its own, so a field's mark reaches no further than the field.
+// `count` entries from `first` on have the codes that a pointer to a struct claims: then they are marked. Fields are few and each has a code
+// of its own, so a field's mark reaches no further than the field. This and the functions below answer where the queue then ends, or
+// nothing if a word that has to be there isn't, or isn't of the type claimed.
 fn look_fields(
     marks: &mut [u16],
     queue: &mut [u64],
-    structs: &[u64],
-    types: &[u64],
-    cells: &[u64],
+    script: Script,
     tail: usize,
     code: u64,
     first: usize,
@@ -46,18 +45,16 @@ fn look_fields(
 ) -> Option<usize>
     requires { first + count < 2 ^ 64 }
     ensures { looking result marks.new queue.new
-        ≡ look_fields structs.now types.now cells.now code first count 0
+        ≡ look_fields script.entry.structs.now script.entry.types.now script.entry.cells.now code first count 0
         (seen marks.old queue.old tail) }
 {
     let mut end = tail;
-    let mut i = 0;
-    while i < count {
-        let kind = claim(structs, types, code, i);
-        if entry(cells, first + i, 2) != kind {
+    for i in 0..count {
+        let kind = claim(script, code, i);
+        if entry(script.cells, first + i, 2) != kind {
             return None;
         }
         end = mark(marks, queue, end, first + i, kind, 1);
-        i += 1;
     }
     Some(end)
 }
@@ -68,7 +65,7 @@ fn look_fields(
 fn look_alike(
     marks: &mut [u16],
     queue: &mut [u64],
-    cells: &[u64],
+    script: Script,
     tail: usize,
     code: u64,
     first: usize,
@@ -76,13 +73,13 @@ fn look_alike(
 ) -> Option<usize>
     requires { (first + count < 2 ^ 64) × (count < 65536) }
     ensures { looking result marks.new queue.new
-        ≡ look_alike cells.now code count count first (seen marks.old queue.old tail) }
+        ≡ look_alike script.entry.cells.now code count count first (seen marks.old queue.old tail) }
 {
     let mut end = tail;
     let mut j = first;
     let mut left = count;
     while 0 < left {
-        if entry(cells, j, 2) != code {
+        if entry(script.cells, j, 2) != code {
             return None;
         }
         let known = usize::from(mark_at(marks, j));
@@ -105,67 +102,54 @@ fn look_alike(
 fn look_at(
     marks: &mut [u16],
     queue: &mut [u64],
-    structs: &[u64],
-    types: &[u64],
-    cells: &[u64],
+    script: Script,
     tail: usize,
     value: u64,
     code: u64,
 ) -> Option<usize>
     ensures { looking result marks.new queue.new
-        ≡ look_at structs.now types.now cells.now value code (seen marks.old queue.old tail) }
+        ≡ look_at script.entry.structs.now script.entry.types.now script.entry.cells.now value code (seen marks.old queue.old tail) }
 {
-    let needed = span(structs, value, code);
+    let needed = span(script, value, code);
     if needed == 0 {
         return Some(tail);
     }
-    let first = covered(cells, value, needed - 1)?;
+    let first = covered(script.cells, value, needed - 1)?;
     if tag_of(code) == 2 {
-        return look_fields(
-            marks, queue, structs, types, cells, tail, code, first, needed,
-        );
+        return look_fields(marks, queue, script, tail, code, first, needed);
     }
-    let alike = claim(structs, types, code, 0);
-    look_alike(marks, queue, cells, tail, alike, first, needed)
+    let alike = claim(script, code, 0);
+    look_alike(marks, queue, script, tail, alike, first, needed)
 }
 
 // A literal and all that is reached from it: the entries that join the queue are looked at in turn. The look is called in one place, so
-// that the compiler can put it there and a word that needs no other costs no call.
+// that the compiler can put it there: called once before a `while`, a list takes two fifths more instructions.
 fn literal_look(
     marks: &mut [u16],
     queue: &mut [u64],
-    structs: &[u64],
-    types: &[u64],
-    cells: &[u64],
+    script: Script,
     tail: usize,
     value: u64,
     code: u64,
 ) -> Option<usize>
     requires { tail ≤ length queue.old }
     ensures { looking result marks.new queue.new
-        ≡ literal_look structs.now types.now cells.now value code (seen marks.old queue.old tail) }
+        ≡ literal_look script.entry.structs.now script.entry.types.now script.entry.cells.now value code (seen marks.old queue.old tail) }
 {
     let mut head = tail;
     let mut end = tail;
     let mut held = value;
     let mut kind = code;
     loop {
-        let next = look_at(marks, queue, structs, types, cells, end, held, kind)?;
-        if next <= head {
-            return Some(next);
+        end = look_at(marks, queue, script, end, held, kind)?;
+        if end <= head {
+            return Some(end);
         }
         let j = word(queue, head) as usize;
-        held = entry(cells, j, 1);
-        kind = entry(cells, j, 2);
-        end = next;
+        held = entry(script.cells, j, 1);
+        kind = entry(script.cells, j, 2);
         head += 1;
     }
-}
-
-fn is_literal(operation: Operation) -> bool
-    ensures { result ≡ is_literal operation }
-{
-    matches!(operation, Operation::Literal)
 }
 
 // Node i, if it is a literal.
@@ -173,49 +157,37 @@ fn is_literal(operation: Operation) -> bool
 fn node_look(
     marks: &mut [u16],
     queue: &mut [u64],
-    structs: &[u64],
-    types: &[u64],
-    cells: &[u64],
-    nodes: &[u64],
+    script: Script,
     tail: usize,
     i: usize,
 ) -> Option<usize>
     requires { tail ≤ length queue.old }
     ensures { looking result marks.new queue.new
-        ≡ node_look structs.now types.now cells.now nodes.now i
+        ≡ node_look script.entry.structs.now script.entry.types.now script.entry.cells.now script.entry.nodes.now i
         (seen marks.old queue.old tail) }
 {
-    if is_literal(operation_at(nodes, i)) {
-        let value = row(nodes, i, 1);
-        let code = row(nodes, i, 2);
-        return literal_look(marks, queue, structs, types, cells, tail, value, code);
+    if operation_at(script.nodes, i) == Operation::Literal {
+        let value = row(script.nodes, i, 1);
+        let code = row(script.nodes, i, 2);
+        return literal_look(marks, queue, script, tail, value, code);
     }
     Some(tail)
 }
 
-// The number of the first literal that isn't well typed over the cells; the count of nodes if there is none.
-pub fn first_bad(
-    marks: &mut [u16],
-    queue: &mut [u64],
-    structs: &[u64],
-    types: &[u64],
-    cells: &[u64],
-    nodes: &[u64],
-) -> usize
+// How many nodes there are before the first literal that isn't well typed over the cells: all of them if there is none.
+pub fn first_bad(marks: &mut [u16], queue: &mut [u64], script: Script) -> usize
     ensures { found result marks.new queue.new
-        ≡ first_bad structs.now types.now cells.now nodes.now
+        ≡ first_bad script.entry.structs.now script.entry.types.now script.entry.cells.now script.entry.nodes.now
         marks.old queue.old }
 {
-    wipe(marks);
-    let count = nodes.len() / 4;
+    marks.fill(0);
+    let count = script.nodes.len() / 4;
     let mut tail = 0;
-    let mut i = 0;
-    while i < count {
-        let Some(next) = node_look(marks, queue, structs, types, cells, nodes, tail, i) else {
+    for i in 0..count {
+        let Some(next) = node_look(marks, queue, script, tail, i) else {
             return i;
         };
         tail = next;
-        i += 1;
     }
     count
 }

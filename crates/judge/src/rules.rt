@@ -1,9 +1,10 @@
 // The typing rules: the type of node i from those of its parts, by their codes. `mode` is that of the code around the node.
 ghost use Rattle.std.specs.Prelude.{◌≡◌};
-ghost use Rattle.judge.specs.Rules.{no_rule_told, ill_typed, follows_code, castable_code, access_told, field_told, cast_told, one_told};
+ghost use Rattle.judge.specs.Rules.{no_rule_told, follows_code, castable_code, access_told, field_told, cast_told, one_told};
 ghost use Rattle.judge.specs.Rules.{assign_told, summable, sum_told, act_told, two_told};
 ghost use Rattle.judge.specs.Rules.{literal_told, variable_told, malloc_told, leaf_told};
 
+use crate::Script;
 use crate::rows::row;
 use calculus::{Act, Fault, Operation, Refusal};
 use cells::{Mode, word};
@@ -21,34 +22,18 @@ pub fn no_rule(i: usize) -> Result<u64, Refusal>
     })
 }
 
-// Literal i isn't well typed.
-fn ill_typed(i: usize) -> Result<u64, Refusal>
-    ensures { result ≡ ill_typed i }
-{
-    Err(Refusal {
-        fault: Fault::IllTyped,
-        place: i,
-    })
-}
-
 // "An unchecked pointer only in unchecked mode."
 fn follows_code(mode: Mode, code: u64) -> bool
     ensures { result ≡ follows_code mode code }
 {
-    match mode {
-        Mode::Checked => is_checked(code),
-        Mode::Unchecked => true,
-    }
+    mode == Mode::Unchecked || is_checked(code)
 }
 
 // "In checked mode not a checked pointer."
 fn castable_code(mode: Mode, code: u64) -> bool
     ensures { result ≡ castable_code mode code }
 {
-    match mode {
-        Mode::Checked => tag_of(code) == 0 || !is_checked(code),
-        Mode::Unchecked => true,
-    }
+    mode == Mode::Unchecked || tag_of(code) == 0 || !is_checked(code)
 }
 
 // An access through a pointer to a word or an array: the word or element type.
@@ -88,21 +73,19 @@ fn cast_told(mode: Mode, i: usize, code: u64) -> Result<u64, Refusal>
 
 // A node with one part, of type x.
 pub fn one_told(
-    structs: &[u64],
-    types: &[u64],
-    nodes: &[u64],
+    script: &Script,
     mode: Mode,
     i: usize,
     operation: Operation,
     x: u64,
 ) -> Result<u64, Refusal>
-    ensures { result ≡ one_told structs.now types.now nodes.now mode i operation x }
+    ensures { result ≡ one_told script.now.structs.now script.now.types.now script.now.nodes.now mode i operation x }
 {
     match operation {
         Operation::Unchecked => Ok(x),
-        Operation::Cast => cast_told(mode, i, row(nodes, i, 2)),
-        Operation::Read => access_told(types, mode, i, x),
-        Operation::Field => field_told(structs, i, row(nodes, i, 1), x),
+        Operation::Cast => cast_told(mode, i, row(script.nodes, i, 2)),
+        Operation::Read => access_told(script.types, mode, i, x),
+        Operation::Field => field_told(script.structs, i, row(script.nodes, i, 1), x),
         _ => no_rule(i),
     }
 }
@@ -158,7 +141,7 @@ fn act_told(
 
 // A node with two parts, of types x and y.
 pub fn two_told(
-    types: &[u64],
+    script: &Script,
     mode: Mode,
     i: usize,
     access: bool,
@@ -166,11 +149,11 @@ pub fn two_told(
     x: u64,
     y: u64,
 ) -> Result<u64, Refusal>
-    ensures { result ≡ two_told types.now mode i access operation x y }
+    ensures { result ≡ two_told script.now.types.now mode i access operation x y }
 {
     match operation {
         Operation::Let => Ok(y),
-        Operation::Acts(act) => act_told(types, mode, i, access, act, x, y),
+        Operation::Acts(act) => act_told(script.types, mode, i, access, act, x, y),
         _ => no_rule(i),
     }
 }
@@ -178,19 +161,18 @@ pub fn two_told(
 // A node without parts: literal i is well typed if it comes before the first bad one.
 pub fn leaf_told(
     bound: &[u64],
-    structs: &[u64],
-    nodes: &[u64],
+    script: &Script,
     bad: usize,
     lets: usize,
     i: usize,
     operation: Operation,
 ) -> Result<u64, Refusal>
-    ensures { result ≡ leaf_told bound.now structs.now nodes.now bad lets i operation }
+    ensures { result ≡ leaf_told bound.now script.now.structs.now script.now.nodes.now bad lets i operation }
 {
     match operation {
-        Operation::Literal => literal_told(nodes, bad, i),
-        Operation::Variable => variable_told(bound, lets, i, row(nodes, i, 1)),
-        Operation::Malloc => malloc_told(structs, i, row(nodes, i, 2)),
+        Operation::Literal => literal_told(script.nodes, bad, i),
+        Operation::Variable => variable_told(bound, lets, i, row(script.nodes, i, 1)),
+        Operation::Malloc => malloc_told(script.structs, i, row(script.nodes, i, 2)),
         _ => no_rule(i),
     }
 }
@@ -202,7 +184,10 @@ fn literal_told(nodes: &[u64], bad: usize, i: usize) -> Result<u64, Refusal>
     if i < bad {
         return Ok(row(nodes, i, 2));
     }
-    ill_typed(i)
+    Err(Refusal {
+        fault: Fault::IllTyped,
+        place: i,
+    })
 }
 
 #[tactic(auto, unfolding(crate::specs::Rules::variable_told))]

@@ -23,9 +23,9 @@ together structs types cells nodes marks queue bound marks' queue' bound' first 
     record { model = m; definition = λ words c h r. ap (λ (a : Scripted). as_verdict a.verdict) m ∙ right h r }
 
 pub returns : goal.returns
-returns c = rw c.from.ensures (together _ _ _ _ c.args.marks.now c.args.queue.now _ _ _ _ _ _ c.first_bad-first.ensures (rw c.in_ok-code.was at c.judge_node.ensures))
+returns c = rw c.from.ensures (together _ _ _ _ c.args.marks.now c.args.queue.now _ _ _ _ _ _ c.first_bad-good.ensures (rw c.in_ok-code.was at c.judge_node.ensures))
 
 pub returns-in_err-code : goal.returns-in_err-code
 returns-in_err-code c =
     let p = err_from_is_err_and c.from_residual.result c.from_residual.ensures.1 in
-    rw (p.1, p.2) (together _ _ _ _ c.args.marks.now c.args.queue.now _ _ _ _ _ _ c.first_bad-first.ensures (rw c.in_err-code.was at c.judge_node.ensures))
+    rw (p.1, p.2) (together _ _ _ _ c.args.marks.now c.args.queue.now _ _ _ _ _ _ c.first_bad-good.ensures (rw c.in_err-code.was at c.judge_node.ensures))

@@ -12,8 +12,8 @@ use Rattle.judge.proofs.Room.{look_after, ends_within}
 use Rattle.judge.proofs.literals.literal_look.Invariants.{Draining}
 use Rattle.judge.proofs.literals.literal_look.Goals as goal
 
-module _ {structs types cells : List ℕ} {start : Looking} {marks₀ queue₀ marks queue : List ℕ} {head end held kind : ℕ}
-    (m : Draining structs types cells start marks₀ queue₀ marks queue head end held kind) {marks' queue' : List ℕ} where
+module _ {structs types cells : List ℕ} {start : Looking} {marks queue : List ℕ} {head end held kind : ℕ}
+    (m : Draining structs types cells start marks queue head end held kind) {marks' queue' : List ℕ} where
   stops : off marks' queue' ≡ look_at structs types cells held kind (seen marks queue end) → off marks' queue' ≡ start
   stops e = sym (m.same ∙ rw (← e))
 
@@ -31,15 +31,15 @@ module _ {structs types cells : List ℕ} {start : Looking} {marks₀ queue₀ m
     still = ends_within (seen marks queue end) (seen marks' queue' next) _ (look_after structs types cells _ _ (seen marks queue end)) e m.ends
 
     -- the entry that `head` is at is looked at next
-    turn : head < next → length marks' ≡ length marks → length queue' ≡ length queue → {j held' kind' : ℕ} → j ≡ get_or queue' head 0
+    turn : head < next → length queue' ≡ length queue → {j held' kind' : ℕ} → j ≡ get_or queue' head 0
         → held' ≡ entry_at cells j 1 → kind' ≡ entry_at cells j 2
-        → Draining structs types cells start marks₀ queue₀ marks' queue' (head + 1) next held' kind'
+        → Draining structs types cells start marks' queue' (head + 1) next held' kind'
     unfolding drain
-    turn h k l {j} {held'} {kind'} is-j is_held_lem is_kind = go m.deep m.enough m.same
+    turn h l {j} {held'} {kind'} is-j is_held_lem is_kind = go m.deep m.enough m.same
       where
         go : (deep : ℕ) → length queue ≤ head + deep
             → start ≡ then_look (look_at structs types cells held kind (seen marks queue end)) (drain structs types cells deep head)
-            → Draining structs types cells start marks₀ queue₀ marks' queue' (head + 1) next held' kind'
+            → Draining structs types cells start marks' queue' (head + 1) next held' kind'
         go zero b f = absurd (omega (arith, still))
         go (suc deep) b f =
             record {
@@ -47,19 +47,17 @@ module _ {structs types cells : List ℕ} {start : Looking} {marks₀ queue₀ m
               deep = deep;
               enough = omega arith;
               same = f ∙ rw (← e, lt-ltb head next h, is_held_lem, is_kind, is-j);
-              long = k ∙ m.long;
-              long_queue = l ∙ m.long_queue;
             }
 
-pub loop-next-init : goal.loop-next-init
+pub loop-end-init : goal.loop-end-init
 unfolding literal_look
-loop-next-init c = record { ends = c.requires; deep = length c.args.queue.now; enough = omega arith; same = refl; long = refl; long_queue = refl }
+loop-end-init c = record { ends = c.requires; deep = length c.args.queue.now; enough = omega arith; same = refl }
 
-pub returns-then-next-head : goal.returns-then-next-head
-returns-then-next-head c = done c.loop-next.invariant (rw c.in_ok-next.was at c.look_at.ensures) c.if-next-head.true
+pub returns-then-end-head : goal.returns-then-end-head
+returns-then-end-head c = done c.loop-end.invariant (rw c.in_ok-end.was at c.look_at.ensures) c.if-end-head.true
 
-pub loop-next-smaller : goal.loop-next-smaller
-loop-next-smaller c = let l = still c.loop-next.invariant (rw c.in_ok-next.was at c.look_at.ensures) in omega (arith, l, c.if-next-head.false, c.look_at.auto.queue, c.loop-next.invariant.long_queue)
+pub loop-end-smaller : goal.loop-end-smaller
+loop-end-smaller c = let l = still c.loop-end.invariant (rw c.in_ok-end.was at c.look_at.ensures) in omega (arith, l, c.if-end-head.false, c.look_at.auto.queue, c.loop-end.auto.queue)
 
-pub loop-next-preserved : goal.loop-next-preserved
-loop-next-preserved c = turn c.loop-next.invariant (rw c.in_ok-next.was at c.look_at.ensures) c.if-next-head.false c.look_at.auto.marks c.look_at.auto.queue c.word-j.ensures c.entry-held.ensures c.entry-kind.ensures
+pub loop-end-preserved : goal.loop-end-preserved
+loop-end-preserved c = turn c.loop-end.invariant (rw c.in_ok-end.was at c.look_at.ensures) c.if-end-head.false c.look_at.auto.queue c.word-j.ensures c.entry-held.ensures c.entry-kind.ensures

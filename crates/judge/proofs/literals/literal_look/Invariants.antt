@@ -9,17 +9,15 @@ use Rattle.judge.specs.Marks.{seen}
 use Rattle.judge.specs.Literals.{Looking, then_look, look_at, drain, literal_look}
 use Rattle.judge.proofs.literals.literal_look.Given as goal
 
-pub record Draining (structs types cells : List ℕ) (start : Looking) (marks₀ queue₀ marks queue : List ℕ) (head end held kind : ℕ) : Type 0 where
+pub record Draining (structs types cells : List ℕ) (start : Looking) (marks queue : List ℕ) (head end held kind : ℕ) : Type 0 where
   pub ends : end ≤ length queue
   pub deep : ℕ
   pub enough : length queue ≤ head + deep
   pub same : start ≡ then_look (look_at structs types cells held kind (seen marks queue end)) (drain structs types cells deep head)
-  pub long : length marks ≡ length marks₀
-  pub long_queue : length queue ≡ length queue₀
 
-abbrev pub invariant-loop-next : goal.invariant-loop-next
-invariant-loop-next l =
-    Draining l.structs l.types l.cells (literal_look l.structs l.types l.cells l.value l.code (seen l.initial.marks l.initial.queue l.tail)) l.initial.marks l.initial.queue l.marks l.queue l.head l.end l.held l.kind
+abbrev pub invariant-loop-end : goal.invariant-loop-end
+invariant-loop-end l =
+    Draining l.script.structs.now l.script.types.now l.script.cells.now (literal_look l.script.structs.now l.script.types.now l.script.cells.now l.value l.code (seen l.initial.marks l.initial.queue l.tail)) l.marks l.queue l.head l.end l.held l.kind
 
-abbrev pub decreases-loop-next : goal.decreases-loop-next
-decreases-loop-next l = length l.initial.queue - l.head
+abbrev pub decreases-loop-end : goal.decreases-loop-end
+decreases-loop-end l = length l.initial.queue - l.head
