@@ -99,10 +99,7 @@ pub fn bind(bound: &mut [u64], stack: &[u64], limit: u64, s: StepState) -> StepT
 {
     let height = s.height;
     let lets = s.lets;
-    if height == 0 {
-        return s.stuck();
-    }
-    if bound.len() / 2 <= lets {
+    if height == 0 || bound.len() / 2 <= lets {
         return s.stuck();
     }
     if limit <= s.steps {

@@ -18,7 +18,7 @@ pub fn run(heap: &mut [u64], stack: &mut [u64], bound: &mut [u64], script: &Scri
         result heap.new stack.new bound.new }
 {
     let mut s = at_start(script.terms);
-    // Each but the last of these advances takes a step.
+    // Each of these takes a step but the last, which the limit ends.
     for _ in 0..=script.terms.limit {
         match advance(heap, stack, bound, script, s) {
             ControlFlow::Continue(next) => s = next,

@@ -24,7 +24,8 @@ goes_on : {f : ControlFlow Outcome StepState} {heap stack bound : List ℕ} {a :
 goes_on go e z = rw (← e, z)
 
 module _ (rows structs types : List ℕ) (T : Terms) (heap stack bound : List ℕ) (s : StepState) {f : ControlFlow Outcome StepState}
-    {heap' stack' bound' : List ℕ} (e : advanced_to f heap' stack' bound' ≡ flow_of (advanced rows structs types T (whole_rows rows) s heap stack bound)) where
+    {heap' stack' bound' : List ℕ}
+    (e : advanced_to f heap' stack' bound' ≡ flow_of (advanced rows structs types T (whole_rows rows) s heap stack bound)) where
   drives_ends : {o : Outcome} (n : ℕ) → f ≡ Break o → drives rows structs types T n s heap stack bound ≡ run_end o heap' stack' bound'
   unfolding drives
   drives_ends zero z = ends _ e z
