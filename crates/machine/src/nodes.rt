@@ -23,12 +23,11 @@ pub fn enter(
         ≡ entering script.now.nodes.now script.now.structs.now script.now.types.now script.now.terms heap.old frames.old bound.now s at }
 {
     let node = node_at(script.nodes, at as usize);
-    let operation = node.operation;
-    match operation {
+    match node.operation {
         Operation::Literal => ControlFlow::Continue(s.with_value(node.argument, node.kind)),
         Operation::Variable => variable(bound, s, node.argument as usize),
         Operation::Malloc => malloc(heap, script, s, node.kind),
-        _ => first_part(frames, s, at, operation),
+        _ => first_part(frames, s, at, node.operation),
     }
 }
 

@@ -61,8 +61,7 @@ fn after_first(
         ≡ after_first script.now.structs.now script.now.terms heap.now frames.old bound.old s v node }
 {
     let limit = script.terms.limit;
-    let operation = node.operation;
-    match operation {
+    match node.operation {
         Operation::Let => bind(frames, bound, limit, s, v, node.second),
         Operation::Acts(_) => second_part(frames, s, v, node.second),
         _ => {
