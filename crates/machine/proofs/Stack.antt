@@ -102,7 +102,7 @@ pub env_kept : {bound : List ℕ} {ρ : List Cell} (i v c : ℕ) → length ρ �
     → Env (put_word bound (suc i) v c) ρ
 env_kept i v c m h no_lets = no_lets
 env_kept {bound} i v c m h (one_let {ρ} e w s) =
-    one_let (env_kept i v c (omega arith) h e) (word_other bound i v c (length ρ) (omega arith) h w) s
+    one_let (env_kept i v c (omega arith) h e) (word_other bound i v c h (length ρ) (omega arith) w) s
 
 -- no more values are bound than there are frames
 pub lets_few : {t frames : List ℕ} {R h l : ℕ} {ρ : List Cell} {K : List Hole} → Stack t R frames h ρ K l → length ρ ≤ h
