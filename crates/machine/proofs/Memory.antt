@@ -14,7 +14,7 @@ use Rattle.yields.specs.Yields.{given_on}
 use Rattle.machine.specs.declared.Coded.{Coded}
 use Rattle.machine.specs.declared.State.{State}
 use Rattle.machine.specs.States.{Turn, contracted, leaving, written, settled}
-use Rattle.machine.specs.Tables.{in_row, node, node_at, frame, first_value, frame_at, framed, kept}
+use Rattle.machine.specs.Rows.{in_row, node, node_at, frame, first_value, frame_at, framed, kept}
 
 -- ---- a node that is no literal is there: past the end the code is 0
 pub node_there : (t : List ℕ) (i : ℕ) → ((node_at t i).operation ≡ Literal → ⊥) → i < length t / 4

@@ -15,7 +15,7 @@ use Rattle.image.specs.Tabled.{Row, Spans, one_operation, one_argument, one_kind
 use Rattle.image.specs.Shape.{Scoped, SmallOne, SmallExpr, small_one, height}
 use Rattle.machine.specs.declared.Coded.{Coded}
 use Rattle.machine.specs.States.{coded}
-use Rattle.machine.specs.Tables.{frame, frame_at}
+use Rattle.machine.specs.Rows.{frame, frame_at}
 use Rattle.machine.proofs.Memory.{SameBelow, BoundWord, word_other}
 use Rattle.calculus.proofs.Contexts.{Hole, in_one, in_bound, in_left, in_right, under}
 use Rattle.machine.proofs.Fill.{fill}

@@ -40,7 +40,7 @@ use Rattle.machine.specs.declared.Focus.TheVariants as focus
 use Rattle.machine.specs.declared.State.{State}
 use Rattle.machine.specs.States.{Leaving, Moved, leaving, moved, on_heap, coded, state, first_of, stepped, with_value, with_hint, more, contracted, settled}
 use Rattle.machine.specs.States as states
-use Rattle.machine.specs.Tables.{node, frame, frame_at, framed, kept}
+use Rattle.machine.specs.Rows.{node, frame, frame_at, framed, kept}
 use Rattle.machine.specs.Redexes.{one_yield}
 use Rattle.machine.specs.Malloc.{room_taken, room_found, room_for, room_at}
 use Rattle.machine.specs.Nodes.{inside_of, variable_at, first_part, entered}

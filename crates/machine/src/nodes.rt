@@ -4,7 +4,7 @@ ghost use Rattle.machine.specs.Nodes.{entering, variable_at, first_part};
 ghost use Rattle.machine.specs.States.{leaving, moved};
 
 use crate::malloc::malloc;
-use crate::tables::{node_at, put_frame};
+use crate::rows::{node_at, put_frame};
 use crate::{Focus, Script, State, Turn};
 use calculus::Operation;
 use cells::{code_at, value_at};

@@ -4,7 +4,7 @@ ghost use Rattle.machine.specs.Values.{handing, after_first, after_second, bindi
 ghost use Rattle.machine.specs.States.{leaving, moved, stacked};
 
 use crate::redexes::{act, one};
-use crate::tables::{frame_at, keep, node_at};
+use crate::rows::{frame_at, keep, node_at};
 use crate::{Coded, Focus, Node, Script, State, Turn};
 use calculus::Operation;
 use cells::put_word;
