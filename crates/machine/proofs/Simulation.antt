@@ -217,7 +217,8 @@ simulated {S} {T} {H} {e} {ws} {heap} {frames} {bound} {table} {structs} {types}
       frames_room = r.frames_room;
       bound_room = r.bound_room;
     } in
-    let a = (runs L table (height e) (nodes e) r.nodes_fill (length table)).from H 0 0 (start_hint T) m s (omega (arith, few_ticks e, r.nodes_fill)) (omega arith) in
+    let enough : 0 + ticks e < length table = omega (arith, few_ticks e, r.nodes_fill) in
+    let a = (runs L table (height e) (nodes e) r.nodes_fill (length table)).from H 0 0 (start_hint T) m s enough (omega arith) in
     let b = rw (fill_none 0 e) at a in
     let z : T.limit - 0 ≡ T.limit = omega arith in
     rw r.heap_held

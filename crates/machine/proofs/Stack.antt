@@ -15,7 +15,7 @@ use Rattle.image.specs.Tabled.{Row, Spans, one_operation, one_argument, one_kind
 use Rattle.image.specs.Shape.{Scoped, SmallOne, SmallExpr, small_one, height}
 use Rattle.machine.specs.declared.Coded.{Coded}
 use Rattle.machine.specs.States.{coded}
-use Rattle.machine.specs.Tables.{frame, frame_at}
+use Rattle.machine.specs.Rows.{frame, frame_at}
 use Rattle.machine.proofs.Memory.{SameBelow, BoundWord, word_other}
 use Rattle.calculus.proofs.Contexts.{Hole, in_one, in_bound, in_left, in_right, under}
 use Rattle.machine.proofs.Fill.{fill}
@@ -102,7 +102,7 @@ pub env_kept : {bound : List ℕ} {ρ : List Cell} (i v c : ℕ) → length ρ �
     → Env (put_word bound (suc i) v c) ρ
 env_kept i v c m h no_lets = no_lets
 env_kept {bound} i v c m h (one_let {ρ} e w s) =
-    one_let (env_kept i v c (omega arith) h e) (word_other bound i v c (length ρ) (omega arith) h w) s
+    one_let (env_kept i v c (omega arith) h e) (word_other bound i v c h (length ρ) (omega arith) w) s
 
 -- no more values are bound than there are frames
 pub lets_few : {t frames : List ℕ} {R h l : ℕ} {ρ : List Cell} {K : List Hole} → Stack t R frames h ρ K l → length ρ ≤ h

@@ -40,7 +40,7 @@ use Rattle.machine.specs.declared.Focus.TheVariants as focus
 use Rattle.machine.specs.declared.State.{State}
 use Rattle.machine.specs.States.{Leaving, Moved, leaving, moved, on_heap, coded, state, first_of, stepped, with_value, with_hint, more, contracted, settled}
 use Rattle.machine.specs.States as states
-use Rattle.machine.specs.Tables.{node, frame, frame_at, framed, kept}
+use Rattle.machine.specs.Rows.{node, frame, frame_at, framed, kept}
 use Rattle.machine.specs.Redexes.{one_yield}
 use Rattle.machine.specs.Malloc.{room_taken, room_found, room_for, room_at}
 use Rattle.machine.specs.Nodes.{inside_of, variable_at, first_part, entered}
@@ -72,7 +72,8 @@ module _ {S : Setting} {T : Terms} {ws structs types : List ℕ} (L : OnTerms S 
   pub data Goes (H : Heap) (frames bound : List ℕ) (steps first : ℕ) (ht : Hint) (r : Moved) (e : Expr) (left : ℕ) : Type 0 where
     is_done : {c : Cell} → r ≡ moved (states.over (outcome_of (ends.Value c) steps first)) (lent H ws) frames bound → e ≡ lit c.value c.kind
         → Goes H frames bound steps first ht r e left
-    is_quiet : {f : Focus} {h lets : ℕ} {x : Bool} {left' : ℕ} {frames' : List ℕ} → r ≡ moved (states.goes (state f h lets x steps first ht)) (lent H ws) frames' bound
+    is_quiet : {f : Focus} {h lets : ℕ} {x : Bool} {left' : ℕ} {frames' : List ℕ}
+        → r ≡ moved (states.goes (state f h lets x steps first ht)) (lent H ws) frames' bound
         → length frames' ≡ length frames → SimNodes table R f h lets x frames' bound e left' → left' < left
         → Goes H frames bound steps first ht r e left
     is_stuck : {m : Mode} → r ≡ moved (states.stuck (state (focus.Node 0) 0 0 (in_block m) steps first ht)) (lent H ws) frames bound
@@ -198,7 +199,8 @@ module _ {S : Setting} {T : Terms} {ws structs types : List ℕ} (L : OnTerms S 
 
       after_act : (j : ℕ) (o : Act) (d : Coded)
           → resumed_by (Some d) structs T (lent H ws) frames bound (state (focus.Value v) (suc h) lets x steps first ht) v (node (op.Acts o) 0 0 j) m
-          ≡ on_heap frames bound (settled T.limit (state (focus.Value v) h lets m steps first ht) (lent H ws) (act_gives T.words (lent H ws) o v.value v.code d.value d.code))
+          ≡ on_heap frames bound (settled T.limit (state (focus.Value v) h lets m steps first ht) (lent H ws)
+          (act_gives T.words (lent H ws) o v.value v.code d.value d.code))
       unfolding after_second
       after_act j o d = rw (less h)
 
@@ -338,8 +340,10 @@ module _ {S : Setting} {T : Terms} {ws structs types : List ℕ} (L : OnTerms S 
       enter_bound h lets x i l = rw (first_part_lem h lets x i op.Let l)
 
       enter_one : (h lets i : ℕ) (o : One) (m : Mode) → h < R
-          → entered structs types T (lent H ws) frames bound (state (focus.Node i) h lets (in_block m) steps first ht) i (one_operation o) (one_argument o) (one_kind o)
-          ≡ moved (states.goes (state (focus.Node (suc i)) (suc h) lets (in_block (inside o m)) steps first ht)) (lent H ws) (framed frames h i (in_block m)) bound
+          → entered structs types T (lent H ws) frames bound (state (focus.Node i) h lets (in_block m) steps first ht) i
+          (one_operation o) (one_argument o) (one_kind o)
+          ≡ moved (states.goes (state (focus.Node (suc i)) (suc h) lets (in_block (inside o m)) steps first ht)) (lent H ws)
+          (framed frames h i (in_block m)) bound
       unfolding entered
       enter_one h lets i unchecked m l = rw (first_part_lem h lets (in_block m) i op.Unchecked l)
       enter_one h lets i (cast κ) m l = rw (first_part_lem h lets (in_block m) i op.Cast l)

@@ -8,7 +8,7 @@ use Rattle.machine.specs.declared.Node.{Node}
 use Rattle.machine.specs.declared.State.{State}
 use Rattle.yields.specs.declared.Terms.{Terms}
 use Rattle.machine.specs.States.{Turn, goes, Leaving, Moved, leaving, moved, on_heap, on_frames, stuck, with_node, with_value, at_height}
-use Rattle.machine.specs.Tables.{node_at, framed}
+use Rattle.machine.specs.Rows.{node_at, framed}
 use Rattle.machine.specs.Malloc.{room_at}
 
 -- inside an unchecked block, or as before

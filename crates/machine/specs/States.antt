@@ -48,7 +48,7 @@ state f height lets inside steps first h =
 
 -- another focus; another height, with the mode of the node there; another count of bound values; another place to start to look for room
 abbrev pub focused : State → Focus → State
-focused s f = state f s.height s.lets s.inside s.steps s.first s.hint
+focused s f = record s { focus = f }
 
 abbrev pub with_node : State → (at : ℕ) → State
 with_node s at = focused s (focus.Node at)
@@ -57,16 +57,16 @@ abbrev pub with_value : State → (value code : ℕ) → State
 with_value s value code = focused s (focus.Value (coded value code))
 
 abbrev pub at_height : State → (height : ℕ) → Bool → State
-at_height s height inside = state s.focus height s.lets inside s.steps s.first s.hint
+at_height s height inside = record s { height = height; inside = inside }
 
 abbrev pub popped : State → State
 popped s = at_height s (s.height - 1) s.inside
 
 abbrev pub with_lets : State → (lets : ℕ) → State
-with_lets s lets = state s.focus s.height lets s.inside s.steps s.first s.hint
+with_lets s lets = record s { lets = lets }
 
 abbrev pub with_hint : State → (size from : ℕ) → State
-with_hint s size from = state s.focus s.height s.lets s.inside s.steps s.first (room_hint size from)
+with_hint s size from = record s { hint = room_hint size from }
 
 -- the number of the first unchecked step, where the next one is counted too
 abbrev pub first_of : (steps first : ℕ) → (inside : Bool) → ℕ
@@ -77,7 +77,7 @@ first_in s = first_of s.steps s.first s.inside
 
 -- one step more
 abbrev pub stepped : State → State
-stepped s = state s.focus s.height s.lets s.inside (one_more s.steps) (first_in s) s.hint
+stepped s = record s { steps = one_more s.steps; first = first_in s }
 
 -- ---- how a run ends: the limit forbids the next step
 abbrev pub more : State → Turn

@@ -68,8 +68,8 @@ pub type Turn = ControlFlow<Outcome, State>;
 mod malloc;
 mod nodes;
 mod redexes;
+mod rows;
 mod states;
-mod tables;
 mod turns;
 mod values;
 

@@ -4,7 +4,7 @@ ghost use Rattle.machine.specs.Nodes.{entering, variable_at, first_part};
 ghost use Rattle.machine.specs.States.{leaving, moved};
 
 use crate::malloc::malloc;
-use crate::tables::{node_at, put_frame};
+use crate::rows::{node_at, put_frame};
 use crate::{Focus, Script, State, Turn};
 use calculus::Operation;
 use cells::{code_at, value_at};
@@ -23,12 +23,11 @@ pub fn enter(
         ≡ entering script.now.nodes.now script.now.structs.now script.now.types.now script.now.terms heap.old frames.old bound.now s at }
 {
     let node = node_at(script.nodes, at as usize);
-    let operation = node.operation;
-    match operation {
+    match node.operation {
         Operation::Literal => ControlFlow::Continue(s.with_value(node.argument, node.kind)),
         Operation::Variable => variable(bound, s, node.argument as usize),
         Operation::Malloc => malloc(heap, script, s, node.kind),
-        _ => first_part(frames, s, at, operation),
+        _ => first_part(frames, s, at, node.operation),
     }
 }
 

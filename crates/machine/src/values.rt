@@ -4,7 +4,7 @@ ghost use Rattle.machine.specs.Values.{handing, after_first, after_second, bindi
 ghost use Rattle.machine.specs.States.{leaving, moved, stacked};
 
 use crate::redexes::{act, one};
-use crate::tables::{frame_at, keep, node_at};
+use crate::rows::{frame_at, keep, node_at};
 use crate::{Coded, Focus, Node, Script, State, Turn};
 use calculus::Operation;
 use cells::put_word;
@@ -61,8 +61,7 @@ fn after_first(
         ≡ after_first script.now.structs.now script.now.terms heap.now frames.old bound.old s v node }
 {
     let limit = script.terms.limit;
-    let operation = node.operation;
-    match operation {
+    match node.operation {
         Operation::Let => bind(frames, bound, limit, s, v, node.second),
         Operation::Acts(_) => second_part(frames, s, v, node.second),
         _ => {

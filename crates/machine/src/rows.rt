@@ -1,13 +1,13 @@
 // Total accessors of the lent tables in rows of four numbers: the nodes, and the frames (node, whether it lies inside an unchecked block,
 // then the value of its first part with the code of its kind, 0 while that part is evaluated). A row that is not whole is not there.
 ghost use Rattle.std.specs.Prelude.{◌≡◌, ◌<◌};
-ghost use Rattle.machine.specs.Tables.{in_row, node_at, frame_at, framed, kept};
+ghost use Rattle.machine.specs.Rows.{in_row, node_at, frame_at, framed, kept};
 
 use crate::{Coded, Frame, Node};
 use calculus::Operation;
 
 // Number j of row i, 0 where there is no such row.
-#[tactic(auto, unfolding(crate::specs::Tables::in_row))]
+#[tactic(auto, unfolding(crate::specs::Rows::in_row))]
 pub fn row(table: &[u64], i: usize, j: usize) -> u64
     requires { j < 4 }
     ensures { result ≡ in_row table.now i j }
@@ -20,7 +20,7 @@ pub fn row(table: &[u64], i: usize, j: usize) -> u64
 }
 
 // Node i, its code decoded; a row that is not there has the numbers 0.
-#[tactic(auto, unfolding(crate::specs::Tables::node_at))]
+#[tactic(auto, unfolding(crate::specs::Rows::node_at))]
 pub fn node_at(nodes: &[u64], i: usize) -> Node
     ensures { result ≡ node_at nodes.now i }
 {
@@ -34,7 +34,7 @@ pub fn node_at(nodes: &[u64], i: usize) -> Node
 }
 
 // Frame i; a row that is not there has the numbers 0.
-#[tactic(auto, unfolding(crate::specs::Tables::frame_at))]
+#[tactic(auto, unfolding(crate::specs::Rows::frame_at))]
 pub fn frame_at(frames: &[u64], i: usize) -> Frame
     ensures { result ≡ frame_at frames.now i }
 {
@@ -48,7 +48,7 @@ pub fn frame_at(frames: &[u64], i: usize) -> Frame
 }
 
 // A node waits for its first part in frame i from now on; where there is no such row nothing changes.
-#[tactic(auto, unfolding(crate::specs::Tables::framed))]
+#[tactic(auto, unfolding(crate::specs::Rows::framed))]
 pub fn put_frame(frames: &mut [u64], i: usize, node: u64, inside: bool)
     ensures { frames.new ≡ framed frames.old i node inside }
 {
@@ -61,7 +61,7 @@ pub fn put_frame(frames: &mut [u64], i: usize, node: u64, inside: bool)
 }
 
 // Frame i keeps the value of its node's first part from now on.
-#[tactic(auto, unfolding(crate::specs::Tables::kept))]
+#[tactic(auto, unfolding(crate::specs::Rows::kept))]
 pub fn keep(frames: &mut [u64], i: usize, v: Coded)
     ensures { frames.new ≡ kept frames.old i v }
 {
