@@ -6,7 +6,6 @@ use Prim.Native.Nat.{ℕ, ◌<◌, ◌≤◌}
 use native.Mathlib.Omega.{arith}
 use Rattle.std.specs.Prelude.{IfOk}
 use Rattle.image.specs.declared.Counts.{Counts}
-use Rattle.image.specs.Image.{read_format}
 use Rattle.image.specs.Tabling.{counts_at, tables_into, front_into, read_row}
 use Rattle.image.specs.Cells.{read_address}
 use Rattle.image.specs.Filling.{head_into}

@@ -1,7 +1,7 @@
 -- Every offset and every place that a reading tells lies within the image, if it starts within it: of numbers, targets, and the
 -- expression as it goes into the node table. The measure of the last is the depth.
 -- Assumes nothing.
-use mathlib.Core.Path.{◌≡◌, refl, ap}
+use mathlib.Core.Path.{◌≡◌, refl}
 use mathlib.Core.Bool.{Bool, true, false}
 use mathlib.Core.List.{List}
 use Prim.Native.Nat.{ℕ, zero, suc, ◌+◌, ◌*◌, ◌≤◌}
@@ -24,7 +24,7 @@ use Rattle.calculus.specs.declared.Fault.TheVariants as fault
 use Rattle.calculus.specs.declared.Refusal.{Refusal}
 use Rattle.image.specs.Parsing.{Parsed, got, refused, then_read, as_reading, number, below}
 use Rattle.image.specs.Tables.{read_target}
-use Rattle.image.specs.Answers.{told, mapped, pointer_code}
+use Rattle.image.specs.Answers.{mapped, pointer_code}
 use Rattle.image.specs.Filled.{Filled, filled}
 use Rattle.image.specs.Tabling.{on_read, on_filled}
 use Rattle.image.specs.Filling.{Headed, Noded, kind_code, literal, line_of, inside, head_into, parts_into, node_into}
@@ -80,10 +80,6 @@ module _ (image : List ℕ) where
 -- the same of what is answered of a reading
 abbrev pub ToldWithin : (limit : ℕ) {A : Type 0} → Result (Read A) Refusal → Type 0
 ToldWithin limit r = MatchResult r (λ x. x.next ≤ limit) (λ q. q.place ≤ limit)
-
-told_within : {limit : ℕ} {A : Type 0} (r : Parsed A) → Within limit r → ToldWithin limit (told r)
-told_within (got a next) (within h) = h
-told_within (refused f p) (within_refused h) = h
 
 -- behind a part that writes nothing
 read_then : {limit : ℕ} {A B : Type 0} (t : List ℕ) (r : Parsed A) (go : A → ℕ → Filled (Result (Read B) Refusal))
