@@ -4,8 +4,8 @@ ghost use Rattle.image.specs.Answers.{found, told};
 ghost use Rattle.image.specs.Filled.{filled};
 ghost use Rattle.image.specs.Filling.{node_row, kind_code, literal, line_of, head_into, node_into, expression_into};
 
-use crate::number::{read_below, read_limited};
 use crate::lent_rows::put_row;
+use crate::number::{read_below, read_limited};
 use crate::target::read_target;
 use crate::{NodeRow, Parts};
 use calculus::{Fault, Operation, Refusal};
