@@ -24,7 +24,7 @@ use Rattle.image.specs.Parsing.{Parsed, got, refused, then_read, number, carried
 use Rattle.image.specs.Nodes.{Head, read_head, read_parts, read_node}
 use Rattle.image.specs.Image.{read_expr}
 use Rattle.image.specs.Tabled.{one_operation, one_argument, one_kind, two_operation, Row, Spans, s_lit, s_var, s_malloc, s_bind, s_one, s_two}
-use Rattle.image.specs.Answers.{refusal, found}
+use Rattle.image.specs.Answers.{refusal, with_next}
 use Rattle.image.specs.Filled.{filled}
 use Rattle.image.specs.Tabling.{on_read, on_filled}
 use Rattle.image.specs.Filling.{Headed, Noded, written, row_into, expression_answer, parts_into, head_into, node_into, carried_back, expression_into}
@@ -36,18 +36,18 @@ use Rattle.image.proofs.Alike.{Alike, alike, alike_refused, Tells, tells_lit, te
 -- what went into the rows from i on is what was read
 pub data Into (t : List ℕ) (i : ℕ) : Noded → Parsed Expr → Type 0 where
   into : {e : Expr} {next count : ℕ} {t' : List ℕ} → count ≡ i + nodes e → RowsKept t i count t' → (4 * count ≤ length t → Spans t' i e)
-      → Into t i (filled (Ok (found count next)) t') (got e next)
+      → Into t i (filled (Ok (with_next count next)) t') (got e next)
   stopped : {f : Fault} {p : ℕ} {t' : List ℕ} → length t' ≡ length t → Into t i (filled (Err (refusal f p)) t') (refused f p)
 
 -- the same of a head in row i
 data HeadInto (t : List ℕ) (i : ℕ) : Headed → Parsed Head → Type 0 where
   head_into_lem : (code : ℕ) {next : ℕ} {o : Operation} {l : NodeRow} {h : Head} → operation_of code ≡ o → Tells o l h
-      → HeadInto t i (filled (Ok (found l.parts next)) (written t i code l.argument l.kind)) (got h next)
+      → HeadInto t i (filled (Ok (with_next l.parts next)) (written t i code l.argument l.kind)) (got h next)
   head_stopped : {f : Fault} {p : ℕ} → HeadInto t i (filled (Err (refusal f p)) t) (refused f p)
 
 -- a node without parts
 leaf_into : {t t' : List ℕ} {i : ℕ} {operation : Operation} {argument kind next : ℕ} {e : Expr} → nodes e ≡ 1 → Opened t i t' operation argument kind
-    → (Row t' i operation argument kind 0 → Spans t' i e) → Into t i (filled (Ok (found (i + 1) next)) t') (got e next)
+    → (Row t' i operation argument kind 0 → Spans t' i e) → Into t i (filled (Ok (with_next (i + 1) next)) t') (got e next)
 leaf_into {i = i} {e = e} n o span = into {e = e} {count = i + 1} (omega arith) o.kept (λ room. span (o.row (omega arith)))
 
 -- a node with one part, which went into the table behind it
@@ -170,7 +170,7 @@ cut_into t i at (refused f p) = stopped refl
 
 -- what the relation says of the answer
 into_result : {t : List ℕ} {i : ℕ} {F : Noded} {r : Parsed Expr} → Into t i F r → F.result ≡ expression_answer i r
-into_result (into {next = next} c k span) = ap (λ n. Ok (found n next)) c
+into_result (into {next = next} c k span) = ap (λ n. Ok (with_next n next)) c
 into_result (stopped e) = refl
 
 -- The types that the reader is lent are the packed word types, and it is told how many structs there are.

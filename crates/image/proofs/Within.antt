@@ -27,7 +27,7 @@ use Rattle.image.specs.Tables.{read_target}
 use Rattle.image.specs.Answers.{mapped, pointer_code}
 use Rattle.image.specs.Filled.{Filled, filled}
 use Rattle.image.specs.Tabling.{on_read, on_filled}
-use Rattle.image.specs.Filling.{Headed, Noded, kind_code, literal, line_of, inside, head_into, parts_into, node_into}
+use Rattle.image.specs.Filling.{Headed, Noded, kind_code, literal, line_of, lets_inside, head_into, parts_into, node_into}
 use Rattle.image.specs.declared.Parts.{Parts}
 use Rattle.image.specs.declared.Parts.TheVariants.{Leaf, One, Two}
 
@@ -101,9 +101,9 @@ parts_within limit part each lets i One at t h = each lets (i + 1) at t h
 parts_within limit part each lets i (Two b) at t h =
     let f : Noded = part lets (i + 1) at t in
     filled_then f.result f.table
-    (λ x t'. part (inside lets b) x.value x.next (set t' (4 * i + 3) x.value))
+    (λ x t'. part (lets_inside lets b) x.value x.next (set t' (4 * i + 3) x.value))
     (each lets (i + 1) at t h)
-    (λ x t' l. each (inside lets b) x.value x.next (set t' (4 * i + 3) x.value) l)
+    (λ x t' l. each (lets_inside lets b) x.value x.next (set t' (4 * i + 3) x.value) l)
 
 module _ (image types : List ℕ) (structs : ℕ) where
   kind_within : (at : ℕ) → at ≤ length image → Within (length image) (kind_code image types at)

@@ -15,7 +15,7 @@ use numbers::Read;
 // What is known while the cells are read: the image, how many words the heap has, and the codes of the word types, which are the first
 // `known` of `types`.
 #[derive(Clone, Copy)]
-struct Known<'a> {
+struct CellReader<'a> {
     image: &'a [u8],
     words: u64,
     types: &'a [u64],
@@ -35,17 +35,17 @@ pub fn read_placed(
     ensures { filled result cells.new ≡ placed_into image.now words types.now known at cells.old }
 {
     let count = read_below(image, at, 4097, Fault::Limit)?;
-    let heap = Known {
+    let reader = CellReader {
         image,
         words,
         types,
         known,
     };
-    let next = heap.read_cells(cells, count.next, count.value as usize)?;
+    let next = reader.read_cells(cells, count.next, count.value as usize)?;
     Ok(Read { next, ..count })
 }
 
-impl Known<'_> {
+impl CellReader<'_> {
     // `count` cells from `first` on: the offset behind them.
     #[tactic(auto, using(crate::proofs::Turns::cells_turn, crate::proofs::TableLaws::row_small), unfolding(crate::specs::Tabling::cells_into))]
     fn read_cells(&self, cells: &mut [u64], first: usize, count: usize) -> Result<usize, Refusal>

@@ -1,9 +1,9 @@
--- `image::heap_cells::Known::read_cells` fills the table as `cells_into` says: what is left to read gives what the whole gives, and no address is
+-- `image::heap_cells::CellReader::read_cells` fills the table as `cells_into` says: what is left to read gives what the whole gives, and no address is
 -- above W. Assumes nothing.
 use mathlib.Core.Path.{◌≡◌}
 use Prim.Native.Nat.{◌-◌, ◌≤◌}
 use Rattle.image.specs.Tabling.{cells_into}
-use Rattle.image.proofs.heap_cells.Known.read_cells.Given as goal
+use Rattle.image.proofs.heap_cells.CellReader.read_cells.Given as goal
 
 abbrev pub invariant-loop-i : goal.invariant-loop-i
 invariant-loop-i l =
