@@ -2,10 +2,10 @@
 -- Assumes nothing.
 use mathlib.Core.Path.{◌≡◌, refl}
 use mathlib.Core.Bool.{true, false}
-use mathlib.Core.List.{List, [], ◌∷◌, map}
-use Prim.Native.Nat.{ℕ, zero, suc, ◌<◌}
-use native.Mathlib.Omega.{arith}
+use mathlib.Core.List.{List, map}
+use Prim.Native.Nat.{ℕ, ◌<◌}
 use lib.ListN.{length, get_or, length-map}
+use Rattle.std.proofs.lemmas.List.{get_or-map}
 use Rattle.cells.specs.Code.{packed}
 use Rattle.cells.specs.declared.Mode.TheVariants.{Checked}
 use Rattle.cells.specs.declared.Kind.{Kind}
@@ -57,11 +57,6 @@ pub data Tells : Operation → NodeRow → Head → Type 0 where
   tells_parts : (o : Two) → Tells (two_operation o) (node_row 0 0 (follow.Two false)) (parts o)
   tells_binding : Tells op.Let (node_row 0 0 (follow.Two true)) binding
 
-code_at : (κs : List Kind) (n : ℕ) → n < length κs → get_or (map packed κs) n 0 ≡ packed (get_or κs n Int)
-code_at [] n l = absurd (omega arith)
-code_at (κ ∷ κs) zero l = refl
-code_at (κ ∷ κs) (suc n) l = code_at κs n (omega arith)
-
 module _ (image : List ℕ) (t : Tables) where
   kind_alike : (at : ℕ) → Alike (λ k κ. k ≡ packed κ) (kind_code image (map packed t.types) at) (read_kind image t at)
   unfolding kind_code
@@ -72,7 +67,7 @@ module _ (image : List ℕ) (t : Tables) where
     where
       go : (r : Parsed ℕ) → Gives (λ n next. n < length t.types) r
           → Alike (λ k κ. k ≡ packed κ) (then_read r (λ n next. got (get_or (map packed t.types) n 0) next)) (then_read r (λ n next. got (get_or t.types n Int) next))
-      go (got n next) (gives l) = alike (code_at t.types n l)
+      go (got n next) (gives l) = alike (get_or-map packed t.types n Int 0 l)
       go (refused f p) g = alike_refused
 
   pub line_alike : (lets first : ℕ) (o : Operation) (at : ℕ)

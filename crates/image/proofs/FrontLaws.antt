@@ -21,9 +21,9 @@ use Rattle.image.specs.Parsing.{Parsed, got, refused, below, several}
 use Rattle.image.specs.Tables.{read_struct, read_types}
 use Rattle.image.specs.Cells.{read_cells}
 use Rattle.image.specs.Image.{read_tables, read_placed}
-use Rattle.image.specs.Answers.{refusal, found}
+use Rattle.image.specs.Answers.{refusal, with_next}
 use Rattle.image.specs.Filled.{Filled, filled}
-use Rattle.image.specs.Tabling.{TablesFilled, tabled, counts, structs_into, types_into, counts_at, tables_into, cells_into, placed_into}
+use Rattle.image.specs.Tabling.{TablesFilled, tabled, table_counts, structs_into, types_into, counts_at, tables_into, cells_into, placed_into}
 use Rattle.image.proofs.Gives.{Gives, gives, gives_then, gives_more, given_by}
 use Rattle.image.proofs.Numbers.{Below, below_gives}
 use Rattle.image.proofs.Each.{Each, Series}
@@ -118,7 +118,7 @@ pub record TablesHeld (ss ts : List ℕ) (t : Tables) (S T : ℕ) (ss' ts' : Lis
 
 pub data TablesAre (ss ts : List ℕ) : Parsed Tables → TablesFilled → Type 0 where
   tables_are : {t : Tables} {S T next : ℕ} {ss' ts' : List ℕ} → TablesHeld ss ts t S T ss' ts'
-      → TablesAre ss ts (got t next) (tabled (Ok (found (counts S T) next)) ss' ts')
+      → TablesAre ss ts (got t next) (tabled (Ok (with_next (table_counts S T) next)) ss' ts')
   tables_refused : {f : Fault} {p : ℕ} {ss' ts' : List ℕ} → TablesAre ss ts (refused f p) (tabled (Err (refusal f p)) ss' ts')
 
 -- type 0 is int: the table that the other types are read into
@@ -196,7 +196,7 @@ module _ (image : List ℕ) (at : ℕ) (ss ts : List ℕ) (room : 256 ≤ length
 pub record TablesOpened (ss ts : List ℕ) (t : Tables) (next : ℕ) (F : TablesFilled) : Type 0 where
   pub S : ℕ
   pub T : ℕ
-  pub answer : F.result ≡ Ok (found (counts S T) next)
+  pub answer : F.result ≡ Ok (with_next (table_counts S T) next)
   pub held : TablesHeld ss ts t S T F.structs F.types
 
 pub tables_opened : {ss ts : List ℕ} {t : Tables} {next : ℕ} {F : TablesFilled} → TablesAre ss ts (got t next) F → TablesOpened ss ts t next F
@@ -209,12 +209,12 @@ tables_unopened tables_refused = refl
 -- the cells as the code leaves them
 pub data PlacedAre (cs : List ℕ) : Parsed (List Placed) → Filled (Result (Read ℕ) Refusal) → Type 0 where
   placed_are : {ps : List Placed} {C next : ℕ} {cs' : List ℕ} → C ≡ length ps → (3 * C ≤ length cs → CellTable C cs ps cs')
-      → PlacedAre cs (got ps next) (filled (Ok (found C next)) cs')
+      → PlacedAre cs (got ps next) (filled (Ok (with_next C next)) cs')
   placed_refused : {f : Fault} {p : ℕ} {cs' : List ℕ} → PlacedAre cs (refused f p) (filled (Err (refusal f p)) cs')
 
 pub record PlacedOpened (cs : List ℕ) (ps : List Placed) (next : ℕ) (F : Filled (Result (Read ℕ) Refusal)) : Type 0 where
   pub C : ℕ
-  pub answer : F.result ≡ Ok (found C next)
+  pub answer : F.result ≡ Ok (with_next C next)
   pub count : C ≡ length ps
   pub table_of : 3 * C ≤ length cs → CellTable C cs ps F.table
 

@@ -19,16 +19,15 @@ use Rattle.calculus.specs.declared.Operation.{Operation}
 use Rattle.calculus.specs.declared.Operation.TheVariants as op
 use Rattle.calculus.specs.declared.Fault.{Fault}
 use Rattle.calculus.specs.declared.Fault.TheVariants as fault
-use Rattle.calculus.specs.declared.Refusal.{Refusal}
 use Rattle.image.specs.Content.{Tables}
 use Rattle.image.specs.Parsing.{Parsed, got, refused, then_read, number, carried}
 use Rattle.image.specs.Nodes.{Head, read_head, read_parts, read_node}
 use Rattle.image.specs.Image.{read_expr}
 use Rattle.image.specs.Tabled.{one_operation, one_argument, one_kind, two_operation, Row, Spans, s_lit, s_var, s_malloc, s_bind, s_one, s_two}
-use Rattle.image.specs.Answers.{refusal, found}
-use Rattle.image.specs.Filled.{Filled, filled, then_fill}
+use Rattle.image.specs.Answers.{refusal, with_next}
+use Rattle.image.specs.Filled.{filled}
 use Rattle.image.specs.Tabling.{on_read, on_filled}
-use Rattle.image.specs.Filling.{Headed, Noded, written, row_into, expression_answer, inside, parts_into, head_into, node_into, carried_back, expression_into}
+use Rattle.image.specs.Filling.{Headed, Noded, written, row_into, expression_answer, parts_into, head_into, node_into, carried_back, expression_into}
 use Rattle.image.specs.declared.NodeRow.{NodeRow}
 use Rattle.image.proofs.Gives.{Gives, gives, gives_none, given_by}
 use Rattle.image.proofs.Rows.{RowsKept, Opened, written_opens, row_kept, spans_kept}
@@ -37,18 +36,18 @@ use Rattle.image.proofs.Alike.{Alike, alike, alike_refused, Tells, tells_lit, te
 -- what went into the rows from i on is what was read
 pub data Into (t : List ℕ) (i : ℕ) : Noded → Parsed Expr → Type 0 where
   into : {e : Expr} {next count : ℕ} {t' : List ℕ} → count ≡ i + nodes e → RowsKept t i count t' → (4 * count ≤ length t → Spans t' i e)
-      → Into t i (filled (Ok (found count next)) t') (got e next)
+      → Into t i (filled (Ok (with_next count next)) t') (got e next)
   stopped : {f : Fault} {p : ℕ} {t' : List ℕ} → length t' ≡ length t → Into t i (filled (Err (refusal f p)) t') (refused f p)
 
 -- the same of a head in row i
 data HeadInto (t : List ℕ) (i : ℕ) : Headed → Parsed Head → Type 0 where
   head_into_lem : (code : ℕ) {next : ℕ} {o : Operation} {l : NodeRow} {h : Head} → operation_of code ≡ o → Tells o l h
-      → HeadInto t i (filled (Ok (found l.parts next)) (written t i code l.argument l.kind)) (got h next)
+      → HeadInto t i (filled (Ok (with_next l.parts next)) (written t i code l.argument l.kind)) (got h next)
   head_stopped : {f : Fault} {p : ℕ} → HeadInto t i (filled (Err (refusal f p)) t) (refused f p)
 
 -- a node without parts
 leaf_into : {t t' : List ℕ} {i : ℕ} {operation : Operation} {argument kind next : ℕ} {e : Expr} → nodes e ≡ 1 → Opened t i t' operation argument kind
-    → (Row t' i operation argument kind 0 → Spans t' i e) → Into t i (filled (Ok (found (i + 1) next)) t') (got e next)
+    → (Row t' i operation argument kind 0 → Spans t' i e) → Into t i (filled (Ok (with_next (i + 1) next)) t') (got e next)
 leaf_into {i = i} {e = e} n o span = into {e = e} {count = i + 1} (omega arith) o.kept (λ room. span (o.row (omega arith)))
 
 -- a node with one part, which went into the table behind it
@@ -169,21 +168,10 @@ cut_into : (t : List ℕ) (i at : ℕ) (r : Parsed ℕ) → Into t i (on_read r 
 cut_into t i at (got v next) = stopped refl
 cut_into t i at (refused f p) = stopped refl
 
--- what the relation says of the answer, of the table, and of its length
+-- what the relation says of the answer
 into_result : {t : List ℕ} {i : ℕ} {F : Noded} {r : Parsed Expr} → Into t i F r → F.result ≡ expression_answer i r
-into_result (into {next = next} c k span) = ap (λ n. Ok (found n next)) c
+into_result (into {next = next} c k span) = ap (λ n. Ok (with_next n next)) c
 into_result (stopped e) = refl
-
-into_length : {t : List ℕ} {i : ℕ} {F : Noded} {r : Parsed Expr} → Into t i F r → length F.table ≡ length t
-into_length (into c k span) = k.long
-into_length (stopped e) = e
-
-into_kept : {t : List ℕ} {i : ℕ} {F : Noded} {e : Expr} {next : ℕ} → Into t i F (got e next) → RowsKept t i (i + nodes e) F.table
-into_kept (into c k span) = rw c at k
-
-into_spans : {t : List ℕ} {i : ℕ} {F : Noded} {e : Expr} {next : ℕ} → Into t i F (got e next) → 4 * (i + nodes e) ≤ length t
-    → Spans F.table i e
-into_spans (into c k span) room = span (omega arith)
 
 -- The types that the reader is lent are the packed word types, and it is told how many structs there are.
 module _ (image : List ℕ) (tables : Tables) (types : List ℕ) (structs : ℕ) (types_are : types ≡ map packed tables.types)
@@ -205,22 +193,6 @@ module _ (image : List ℕ) (tables : Tables) (types : List ℕ) (structs : ℕ)
   pub node_result : (deep lets i at : ℕ) (t : List ℕ)
       → (node_into image types structs deep lets i at t).result ≡ expression_answer i (read_node image tables deep lets i at)
   node_result deep lets i at t = into_result (node_is deep lets i at t)
-
-  -- The table keeps its length,
-  pub node_length : (deep lets i at : ℕ) (t : List ℕ) → length (node_into image types structs deep lets i at t).table ≡ length t
-  node_length deep lets i at t = into_length (node_is deep lets i at t)
-
-  module _ (deep lets i at : ℕ) (t : List ℕ) {e : Expr} {next : ℕ} (q : read_node image tables deep lets i at ≡ got e next) where
-    was_read : Into t i (node_into image types structs deep lets i at t) (got e next)
-    was_read = rw q at (node_is deep lets i at t)
-
-    -- an expression that was read is held by its rows, if there is room,
-    pub node_spans : 4 * (i + nodes e) ≤ length t → Spans (node_into image types structs deep lets i at t).table i e
-    node_spans room = into_spans was_read room
-
-    -- and all others are as they were.
-    pub node_kept : RowsKept t i (i + nodes e) (node_into image types structs deep lets i at t).table
-    node_kept = into_kept was_read
 
 -- The whole expression, from `at` on: what was answered is carried back.
 carried_answered : (at : ℕ) (r : Parsed Expr) → carried_back at (expression_answer 0 r) ≡ expression_answer 0 (carried at r)
@@ -245,10 +217,6 @@ module _ (image : List ℕ) (tables : Tables) (types : List ℕ) (structs : ℕ)
   expression_result =
       ap (carried_back at) (node_result (drop at image) tables types structs types_are structs_are 64 0 0 0 t)
       ∙ carried_answered at (read_node (drop at image) tables 64 0 0 0)
-
-  pub expression_length : length (expression_into image types structs at t).table ≡ length t
-  unfolding expression_into
-  expression_length = node_length (drop at image) tables types structs types_are structs_are 64 0 0 0 t
 
   left : {e : Expr} {next : ℕ} → read_expr image tables at ≡ got e next → Left t (expression_into image types structs at t).table e next
   unfolding expression_into read_expr

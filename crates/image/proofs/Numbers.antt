@@ -3,7 +3,6 @@
 use mathlib.Core.Path.{◌≡◌, refl}
 use mathlib.Core.List.{List}
 use Prim.Native.Nat.{ℕ, ◌^◌, ◌<◌, ◌≤◌}
-use native.Mathlib.Omega.{arith}
 use lib.Dec.{ltb}
 use lib.ListN.{length}
 use borrow.Author.Tests.{ltb-true}
@@ -13,7 +12,7 @@ use Rattle.numbers.specs.Width.{bits32}
 use Rattle.numbers.specs.declared.Unread.TheVariants.{Ends, Unfit}
 use Rattle.numbers.proofs.Laws.{number_sound, number_32}
 use Rattle.calculus.specs.declared.Fault.{Fault}
-use Rattle.image.specs.Parsing.{Parsed, got, refused, as_reading, number, below}
+use Rattle.image.specs.Parsing.{as_reading, number, below}
 use Rattle.image.proofs.Gives.{Gives, gives, gives_none, gives_then, gives_test, gives_more, IfGot, if_got}
 
 -- a number that was read at `at`

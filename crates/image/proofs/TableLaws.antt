@@ -5,15 +5,14 @@ use mathlib.Core.List.{List}
 use Prim.Native.Nat.{ℕ, ◌<◌, ◌≤◌}
 use native.Mathlib.Omega.{arith}
 use Rattle.std.specs.Prelude.{IfOk}
-use Rattle.image.specs.declared.Counts.{Counts}
-use Rattle.image.specs.Image.{read_format}
+use Rattle.image.specs.declared.TableCounts.{TableCounts}
 use Rattle.image.specs.Tabling.{counts_at, tables_into, front_into, read_row}
 use Rattle.image.specs.Cells.{read_address}
 use Rattle.image.specs.Filling.{head_into}
 use Rattle.image.proofs.Numbers.{below_small}
 use Rattle.image.proofs.Gives.{IfGot}
 
-abbrev pub Few : Counts → Type 0
+abbrev pub Few : TableCounts → Type 0
 Few c = (c.structs ≤ 32) × (c.types ≤ 255)
 
 pub counts_small : (image : List ℕ) (at : ℕ) → (counts_at image at ≡ counts_at image at) × IfGot (counts_at image at) (λ c _. Few c)

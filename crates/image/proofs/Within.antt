@@ -1,7 +1,7 @@
 -- Every offset and every place that a reading tells lies within the image, if it starts within it: of numbers, targets, and the
 -- expression as it goes into the node table. The measure of the last is the depth.
 -- Assumes nothing.
-use mathlib.Core.Path.{◌≡◌, refl, ap}
+use mathlib.Core.Path.{◌≡◌, refl}
 use mathlib.Core.Bool.{Bool, true, false}
 use mathlib.Core.List.{List}
 use Prim.Native.Nat.{ℕ, zero, suc, ◌+◌, ◌*◌, ◌≤◌}
@@ -24,10 +24,10 @@ use Rattle.calculus.specs.declared.Fault.TheVariants as fault
 use Rattle.calculus.specs.declared.Refusal.{Refusal}
 use Rattle.image.specs.Parsing.{Parsed, got, refused, then_read, as_reading, number, below}
 use Rattle.image.specs.Tables.{read_target}
-use Rattle.image.specs.Answers.{told, mapped, pointer_code}
+use Rattle.image.specs.Answers.{mapped, pointer_code}
 use Rattle.image.specs.Filled.{Filled, filled}
 use Rattle.image.specs.Tabling.{on_read, on_filled}
-use Rattle.image.specs.Filling.{Headed, Noded, kind_code, literal, line_of, inside, head_into, parts_into, node_into}
+use Rattle.image.specs.Filling.{Headed, Noded, kind_code, literal, line_of, lets_inside, head_into, parts_into, node_into}
 use Rattle.image.specs.declared.Parts.{Parts}
 use Rattle.image.specs.declared.Parts.TheVariants.{Leaf, One, Two}
 
@@ -81,10 +81,6 @@ module _ (image : List ℕ) where
 abbrev pub ToldWithin : (limit : ℕ) {A : Type 0} → Result (Read A) Refusal → Type 0
 ToldWithin limit r = MatchResult r (λ x. x.next ≤ limit) (λ q. q.place ≤ limit)
 
-told_within : {limit : ℕ} {A : Type 0} (r : Parsed A) → Within limit r → ToldWithin limit (told r)
-told_within (got a next) (within h) = h
-told_within (refused f p) (within_refused h) = h
-
 -- behind a part that writes nothing
 read_then : {limit : ℕ} {A B : Type 0} (t : List ℕ) (r : Parsed A) (go : A → ℕ → Filled (Result (Read B) Refusal))
     → Within limit r → ((a : A) (next : ℕ) → next ≤ limit → ToldWithin limit (go a next).result) → ToldWithin limit (on_read r t go).result
@@ -105,9 +101,9 @@ parts_within limit part each lets i One at t h = each lets (i + 1) at t h
 parts_within limit part each lets i (Two b) at t h =
     let f : Noded = part lets (i + 1) at t in
     filled_then f.result f.table
-    (λ x t'. part (inside lets b) x.value x.next (set t' (4 * i + 3) x.value))
+    (λ x t'. part (lets_inside lets b) x.value x.next (set t' (4 * i + 3) x.value))
     (each lets (i + 1) at t h)
-    (λ x t' l. each (inside lets b) x.value x.next (set t' (4 * i + 3) x.value) l)
+    (λ x t' l. each (lets_inside lets b) x.value x.next (set t' (4 * i + 3) x.value) l)
 
 module _ (image types : List ℕ) (structs : ℕ) where
   kind_within : (at : ℕ) → at ≤ length image → Within (length image) (kind_code image types at)

@@ -13,12 +13,12 @@ abbrev pub refusal : Fault → ℕ → Refusal
 refusal f p = record { fault = f; place = p }
 
 -- what was read, with the offset behind it
-abbrev pub found : {A : Type 0} → A → ℕ → Read A
-found a next = record { value = a; next = next }
+abbrev pub with_next : {A : Type 0} → A → ℕ → Read A
+with_next a next = record { value = a; next = next }
 
 -- what is answered of a reading
 abbrev pub told : {A : Type 0} → Parsed A → Result (Read A) Refusal
-told (got a next) = Ok (found a next)
+told (got a next) = Ok (with_next a next)
 told (refused f p) = Err (refusal f p)
 
 -- go by an answer: a refusal, or what it tells

@@ -14,7 +14,7 @@ use Rattle.calculus.specs.declared.Fault.TheVariants as fault
 use Rattle.calculus.specs.declared.Refusal.{Refusal}
 use Rattle.image.specs.Parsing.{Parsed, got, refused, then_read, number, below}
 use Rattle.image.specs.Tables.{read_target}
-use Rattle.image.specs.Answers.{refusal, found, mapped, pointer_code}
+use Rattle.image.specs.Answers.{refusal, with_next, mapped, pointer_code}
 use Rattle.image.specs.Filled.{Filled, filled, then_fill, row_stored}
 use Rattle.image.specs.Tabling.{on_read, on_filled}
 use Rattle.image.specs.declared.NodeRow.{NodeRow}
@@ -38,24 +38,24 @@ Noded = Filled (Result (Read ℕ) Refusal)
 
 -- what stands behind a node's code, into row i
 abbrev pub row_into : List ℕ → (i code : ℕ) → Parsed NodeRow → Headed
-row_into t i code r = on_read r t (λ row next. filled (Ok (found row.parts next)) (written t i code row.argument row.kind))
+row_into t i code r = on_read r t (λ row next. filled (Ok (with_next row.parts next)) (written t i code row.argument row.kind))
 
 -- what the code answers for an expression that the definition reads behind i nodes
 abbrev pub expression_answer : ℕ → Parsed Expr → Result (Read ℕ) Refusal
-expression_answer i (got e next) = Ok (found (i + nodes e) next)
+expression_answer i (got e next) = Ok (with_next (i + nodes e) next)
 expression_answer i (refused f p) = Err (refusal f p)
 
 -- the lets that a node's second part is inside of: "A let's bound part is not inside that let."
-abbrev pub inside : (lets : ℕ) (binds : Bool) → ℕ
-inside lets binds = lets + from_bool binds
+abbrev pub lets_inside : (lets : ℕ) (binds : Bool) → ℕ
+lets_inside lets binds = lets + from_bool binds
 
 -- the parts of node i, each read by `part`, which is told the lets around it, the nodes read before it and where it starts
 abbrev pub parts_into : (ℕ → ℕ → ℕ → List ℕ → Noded) → (lets i : ℕ) → Parts → (at : ℕ) → List ℕ → Noded
-parts_into part lets i parts.Leaf at t = filled (Ok (found (i + 1) at)) t
+parts_into part lets i parts.Leaf at t = filled (Ok (with_next (i + 1) at)) t
 parts_into part lets i parts.One at t = part lets (i + 1) at t
 parts_into part lets i (parts.Two binds) at t =
     on_filled (part lets (i + 1) at t)
-    (λ first t'. part (inside lets binds) first.value first.next (set t' (4 * i + 3) first.value))
+    (λ first t'. part (lets_inside lets binds) first.value first.next (set t' (4 * i + 3) first.value))
 
 module _ (image types : List ℕ) where
   -- a word type by its packed code
@@ -97,7 +97,7 @@ module _ (image types : List ℕ) (structs : ℕ) where
 
 -- what was read from `at` on, with places carried back to whole-image offsets
 abbrev pub carried_back : (at : ℕ) → Result (Read ℕ) Refusal → Result (Read ℕ) Refusal
-carried_back at (Ok r) = Ok (found r.value (at + r.next))
+carried_back at (Ok r) = Ok (with_next r.value (at + r.next))
 carried_back at (Err q) = Err (refusal q.fault (at + q.place))
 
 -- the whole expression, which starts at `at`

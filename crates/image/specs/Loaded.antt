@@ -2,14 +2,12 @@
 -- answered of the content that the definition reads.
 use Rattle.std.specs.Prelude.{ℕ, ◌+◌, List, ltb, length, take, Result, Ok, Err}
 use Rattle.choice.specs.Choice.{choose}
-use Rattle.numbers.specs.declared.Read.{Read}
 use Rattle.calculus.specs.Expr.{nodes}
 use Rattle.calculus.specs.declared.Fault.TheVariants as fault
 use Rattle.calculus.specs.declared.Refusal.{Refusal}
 use Rattle.image.specs.Content.{Content}
 use Rattle.image.specs.Parsing.{Parsed, got, refused}
 use Rattle.image.specs.Answers.{refusal, on_answer}
-use Rattle.image.specs.Filled.{Filled}
 use Rattle.image.specs.Tabling.{FrontFilled, front_into}
 use Rattle.image.specs.Filling.{Noded, expression_into}
 use Rattle.image.specs.declared.Format.{Format}

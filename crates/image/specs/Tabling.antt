@@ -5,17 +5,16 @@ use Rattle.std.specs.List.{list_any}
 use Rattle.choice.specs.Choice.{choose}
 use Rattle.cells.specs.Code.{packed}
 use Rattle.numbers.specs.declared.Read.{Read}
-use Rattle.calculus.specs.declared.Fault.{Fault}
 use Rattle.calculus.specs.declared.Fault.TheVariants as fault
 use Rattle.calculus.specs.declared.Refusal.{Refusal}
 use Rattle.image.specs.Parsing.{Parsed, got, refused, then_read, number, below}
 use Rattle.image.specs.Tables.{read_entry}
 use Rattle.image.specs.Cells.{read_address}
 use Rattle.image.specs.Image.{read_format}
-use Rattle.image.specs.Answers.{refusal, found, told, on_answer, mapped}
+use Rattle.image.specs.Answers.{refusal, with_next, told, on_answer, mapped}
 use Rattle.image.specs.Filled.{Filled, filled, row_stored}
 use Rattle.image.specs.declared.Format.{Format}
-use Rattle.image.specs.declared.Counts.{Counts}
+use Rattle.image.specs.declared.TableCounts.{TableCounts}
 use Rattle.image.specs.declared.CellRow.{CellRow}
 use Rattle.image.specs.declared.Opening.{Opening}
 
@@ -92,30 +91,30 @@ cells_into image words types known (suc left) before i at t =
 unfoldable pub placed_into : (image : List ℕ) (words : ℕ) (types : List ℕ) (known at : ℕ) → List ℕ → Filled (Result (Read ℕ) Refusal)
 placed_into image words types known at t =
     on_read (below fault.Limit 4097 image at) t
-    (λ C next. on_filled (cells_into image words types known C 0 0 next t) (λ end t'. filled (Ok (found C end)) t'))
+    (λ C next. on_filled (cells_into image words types known C 0 0 next t) (λ end t'. filled (Ok (with_next C end)) t'))
 
 -- the counts of structs and pointer types
-abbrev pub counts : (structs types : ℕ) → Counts
-counts S T = record { structs = S; types = T }
+abbrev pub table_counts : (structs types : ℕ) → TableCounts
+table_counts S T = record { structs = S; types = T }
 
-unfoldable pub counts_at : (image : List ℕ) (at : ℕ) → Parsed Counts
+unfoldable pub counts_at : (image : List ℕ) (at : ℕ) → Parsed TableCounts
 counts_at image at =
     then_read (below fault.Limit 33 image at)
-    (λ S at₁. then_read (below fault.Limit 256 image at₁) (λ T at₂. got (counts S T) at₂))
+    (λ S at₁. then_read (below fault.Limit 256 image at₁) (λ T at₂. got (table_counts S T) at₂))
 
 -- the answer and the tables of structs and types
 pub record TablesFilled : Type 0 where
-  pub result : Result (Read Counts) Refusal
+  pub result : Result (Read TableCounts) Refusal
   pub structs : List ℕ
   pub types : List ℕ
 
-abbrev pub tabled : Result (Read Counts) Refusal → List ℕ → List ℕ → TablesFilled
+abbrev pub tabled : Result (Read TableCounts) Refusal → List ℕ → List ℕ → TablesFilled
 tabled r ss ts = record { result = r; structs = ss; types = ts }
 
-abbrev pub types_after : Counts → (ss : List ℕ) → Filled (Result ℕ Refusal) → TablesFilled
-types_after c ss f = on_answer f.result (λ q. tabled (Err q) ss f.table) (λ end. tabled (Ok (found c end)) ss f.table)
+abbrev pub types_after : TableCounts → (ss : List ℕ) → Filled (Result ℕ Refusal) → TablesFilled
+types_after c ss f = on_answer f.result (λ q. tabled (Err q) ss f.table) (λ end. tabled (Ok (with_next c end)) ss f.table)
 
-abbrev pub structs_after : (image : List ℕ) → Counts → (ts : List ℕ) → Filled (Result ℕ Refusal) → TablesFilled
+abbrev pub structs_after : (image : List ℕ) → TableCounts → (ts : List ℕ) → Filled (Result ℕ Refusal) → TablesFilled
 structs_after image c ts f =
     on_answer f.result
     (λ q. tabled (Err q) f.table ts)
@@ -138,14 +137,14 @@ pub record FrontFilled : Type 0 where
 abbrev pub fronted : Result (Read Opening) Refusal → List ℕ → List ℕ → List ℕ → FrontFilled
 fronted r ss ts cs = record { result = r; structs = ss; types = ts; cells = cs }
 
-abbrev pub opening : Format → Counts → (cells : ℕ) → Opening
+abbrev pub opening : Format → TableCounts → (cells : ℕ) → Opening
 opening m c C = record { format = m; counts = c; cells = C }
 
-abbrev pub cells_after : Format → Counts → (ss ts : List ℕ) → Filled (Result (Read ℕ) Refusal) → FrontFilled
+abbrev pub cells_after : Format → TableCounts → (ss ts : List ℕ) → Filled (Result (Read ℕ) Refusal) → FrontFilled
 cells_after m c ss ts f =
     on_answer f.result
     (λ q. fronted (Err q) ss ts f.table)
-    (λ C. fronted (Ok (found (opening m c C.value) C.next)) ss ts f.table)
+    (λ C. fronted (Ok (with_next (opening m c C.value) C.next)) ss ts f.table)
 
 abbrev pub tables_after : (words : ℕ) (image : List ℕ) (cells : List ℕ) → Format → TablesFilled → FrontFilled
 tables_after words image cs m f =

@@ -1,11 +1,11 @@
 // The expression, into the lent node table: four numbers a node, in the order of the nodes.
 ghost use Rattle.std.specs.Prelude.{◌+◌, ◌<◌, ◌≤◌, ◌≡◌};
-ghost use Rattle.image.specs.Answers.{found, told};
+ghost use Rattle.image.specs.Answers.{with_next, told};
 ghost use Rattle.image.specs.Filled.{filled};
 ghost use Rattle.image.specs.Filling.{node_row, kind_code, literal, line_of, head_into, node_into, expression_into};
 
-use crate::number::{read_below, read_limited};
 use crate::lent_rows::put_row;
+use crate::number::{read_below, read_limited};
 use crate::target::read_target;
 use crate::{NodeRow, Parts};
 use calculus::{Fault, Operation, Refusal};
@@ -15,7 +15,7 @@ use numbers::Read;
 // What is known while the nodes are read: the part of the image that they stand in, the codes of the word types, and how many structs
 // there are.
 #[derive(Clone, Copy)]
-struct Known<'a> {
+struct NodeReader<'a> {
     image: &'a [u8],
     types: &'a [u64],
     structs: u64,
@@ -39,12 +39,12 @@ pub fn read_expression(
             place: at,
         });
     }
-    let known = Known {
+    let reader = NodeReader {
         image: &image[at..],
         types,
         structs,
     };
-    match known.read_node(table, 64, 0, 0, 0) {
+    match reader.read_node(table, 64, 0, 0, 0) {
         Ok(count) => Ok(Read {
             next: at + count.next,
             ..count
@@ -56,7 +56,7 @@ pub fn read_expression(
     }
 }
 
-impl Known<'_> {
+impl NodeReader<'_> {
     // The node at `at` with its parts, at most `depth` deep and inside `lets` lets, into the rows from its own number on: how many nodes
     // were read up to there.
     #[tactic(auto, using(crate::proofs::TableLaws::head_small), unfolding(crate::specs::Filling::node_into))]
@@ -190,7 +190,7 @@ impl Known<'_> {
 
 // What stands behind a node's code, with the offset behind it.
 fn row(argument: u64, kind: u64, parts: Parts, next: usize) -> Read<NodeRow>
-    ensures { result ≡ found (node_row argument kind parts) next }
+    ensures { result ≡ with_next (node_row argument kind parts) next }
 {
     Read {
         value: NodeRow {

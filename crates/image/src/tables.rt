@@ -3,7 +3,7 @@ ghost use Rattle.std.specs.Prelude.{◌+◌, ◌≡◌};
 ghost use Rattle.image.specs.Answers.{told};
 ghost use Rattle.image.specs.Tabling.{counts_at, tabled, tables_into};
 
-use crate::Counts;
+use crate::TableCounts;
 use crate::number::read_below;
 use crate::structs::read_structs;
 use crate::types::read_types;
@@ -18,7 +18,7 @@ pub fn read_tables(
     types: &mut [u64],
     image: &[u8],
     at: usize,
-) -> Result<Read<Counts>, Refusal>
+) -> Result<Read<TableCounts>, Refusal>
     ensures { tabled result structs.new types.new ≡ tables_into image.now at structs.old types.old }
 {
     let read = read_counts(image, at)?;
@@ -34,13 +34,13 @@ pub fn read_tables(
 
 // The two counts at `at`.
 #[tactic(auto, unfolding(crate::specs::Tabling::counts_at))]
-fn read_counts(image: &[u8], at: usize) -> Result<Read<Counts>, Refusal>
+fn read_counts(image: &[u8], at: usize) -> Result<Read<TableCounts>, Refusal>
     ensures { result ≡ told (counts_at image.now at) }
 {
     let structs = read_below(image, at, 33, Fault::Limit)?;
     let types = read_below(image, structs.next, 256, Fault::Limit)?;
     Ok(Read {
-        value: Counts {
+        value: TableCounts {
             structs: structs.value,
             types: types.value,
         },

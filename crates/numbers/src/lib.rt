@@ -28,6 +28,7 @@ pub fn read_number(image: &[u8], at: usize) -> Result<Read<u64>, Unread>
 }
 
 // The number at `first` with at most `more` groups before a last one of at most `top`.
+#[tactic(auto, using(crate::proofs::Turns::turns), unfolding(crate::specs::Reading::groups))]
 fn read_groups(image: &[u8], first: usize, more: usize, top: u64) -> Result<Read<u64>, Unread>
     requires { (0 < top) × (128 ^ more * (top + 1) ≤ 2 ^ 64) }
     ensures { result ≡ groups top image.now first more first 1 0 }
