@@ -1,4 +1,5 @@
 -- How the contracts of loading, judging, placing and running join: each law is what one function of the library needs, over plain lists.
+use Rattle.std.specs.Prelude.{Ok, Err}
 use Prim.Native.Nat.{ℕ, ◌*◌, ◌/◌, ◌≤◌, min}
 use mathlib.Core.Path.{◌≡◌, refl, sym, ap, subst, ◌∙◌}
 use mathlib.Core.List.{List}
@@ -27,7 +28,6 @@ use Rattle.machine.specs.Entry.{Stepped}
 use Rattle.codlinbell.specs.Answered.{Answered, answering, answered, ran, judged_then, read_then, content_verdict, content_run, announced, announced_of}
 use Rattle.codlinbell.specs.Placing.{cells_stored}
 use Rattle.codlinbell.specs.Prepared.{whole_heap, LongTables, Prepared}
-use Rattle.answers.specs.declared.Answer.TheVariants.{Refused, Ran}
 use Rattle.codlinbell.proofs.Heaps.{cells_made}
 use Rattle.codlinbell.proofs.Prepared.{rising, readied, ready}
 
@@ -45,7 +45,7 @@ module _ {image ws : List ℕ} {words : ℕ} {c : Content} {structs types cells 
 
   -- Clearing, placing and running is the definition's run.
   pub run_told : (limit : ℕ) {ws₁ ws₂ ws₃ frames' bound' : List ℕ} {o : Outcome} → ws₁ ≡ cleared ws words → ws₂ ≡ cells_stored cells ws₁
-      → Stepped table structs types (whole_heap words limit) ws₂ frames bound o ws₃ frames' bound' → answering (Ran o) ws₃ ≡ ran ws (content_run ws limit c)
+      → Stepped table structs types (whole_heap words limit) ws₂ frames bound o ws₃ frames' bound' → answering (Ok o) ws₃ ≡ ran ws (content_run ws limit c)
   run_told limit {ws₁} {ws₂} {ws₃} {o = o} e₁ e₂ s =
       let few : words ≤ 4096 = omega (arith, p.words_are) in
       let room : 2 * words ≤ length ws = omega (arith, p.words_are) in
@@ -77,7 +77,7 @@ module _ {image ws : List ℕ} {words : ℕ} {c : Content} {structs types cells 
 
   pub refused_told : (limit : ℕ) {j : Judged} {q : Refusal} {marks' queue' bound' : List ℕ}
       → ScriptJudged structs types cells table marks queue bound j marks' queue' bound' → j ≡ verdict.Bad q
-      → answering (Refused q) ws ≡ judged_then ws (content_verdict ws c) (λ _. content_run ws limit c)
+      → answering (Err q) ws ≡ judged_then ws (content_verdict ws c) (λ _. content_run ws limit c)
   refused_told limit a e = sym (ap (λ (v : Verdict). judged_then ws v (λ _. content_run ws limit c)) (verdict_told a ∙ ap as_verdict e))
 
 -- What loading an image without fault leaves: its content, in the fronts of the tables, each of which is long enough.
@@ -165,7 +165,7 @@ module _ {words : ℕ} {image structs types cells table marks queue bound frames
   -- An answer that is `Refused` is the image's answer.
   pub unread_told : {r : Loading} {q : Refusal} (ws : List ℕ) (limit : ℕ) → words ≡ heap_words ws
       → loaded.loaded_tables r structs' types' cells' table' ≡ loaded.load_into words image structs types cells table → r ≡ loading.Refused q
-      → answering (Refused q) ws ≡ answered image ws limit
+      → answering (Err q) ws ≡ answered image ws limit
   unfolding answered
   unread_told {r} {q} ws limit w l e = rw (← w) (go (read_image words image) refl)
     where
@@ -173,7 +173,7 @@ module _ {words : ℕ} {image structs types cells table marks queue bound frames
       result d h =
           sym e ∙ ap (λ (F : loaded.LoadedTables). F.result) l ∙ load_result words image structs types cells table room.types_room ∙ ap loaded.loading h
 
-      go : (d : Parsed Content) → read_image words image ≡ d → answering (Refused q) ws ≡ read_then ws limit (read_image words image)
+      go : (d : Parsed Content) → read_image words image ≡ d → answering (Err q) ws ≡ read_then ws limit (read_image words image)
       go (got c next) h = let same : loading.Refused q ≡ loading.Loaded _ = result (got c next) h in differ cc
       go (refused f i) h =
           let same : loading.Refused q ≡ loading.Refused (record { fault = f; place = i }) = result (refused f i) h in

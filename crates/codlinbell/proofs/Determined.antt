@@ -12,7 +12,7 @@ use Rattle.codlinbell.specs.Answered.{Answered, answering, answered, announced}
 use Rattle.answers.specs.Out.{Numbered, numbered}
 use Rattle.codlinbell.specs.Hosted.{Hosted, hosted}
 use Rattle.answers.specs.Line.{line}
-use Rattle.answers.specs.declared.Answer.{Answer}
+use Rattle.answers.specs.Answer.{Answer}
 
 -- answer_within, and answer_to with the default limit
 pub answer_determined : (image ws : List ℕ) (limit : ℕ) (a b : Answer) (ws₁ ws₂ : List ℕ) → answering a ws₁ ≡ answered image ws limit

@@ -3,7 +3,6 @@ ghost use Rattle.std.specs.Prelude.{ℕ, ◌≤◌, ◌<◌, ◌≡◌, List, le
 ghost use Rattle.image.specs.Content.{Content};
 ghost use Rattle.codlinbell.specs.Answered.{answering, answered, ran, judged_then, content_verdict, content_run, default_limit};
 ghost use Rattle.codlinbell.specs.Prepared.{LongTables, Prepared};
-ghost use Rattle.answers.specs.declared.Answer;
 
 use crate::heap::place_cells;
 use answers::Answer;
@@ -191,7 +190,7 @@ fn answer_in(
                 limit,
             )
         }
-        Loading::Refused(refusal) => Answer::Refused(refusal),
+        Loading::Refused(refusal) => Err(refusal),
     }
 }
 
@@ -214,10 +213,10 @@ fn judge_and_run(
         → answering result heap.new ≡ judged_then heap.old (content_verdict heap.old c) (λ _. content_run heap.old limit c) }
 {
     match judge_script(structs, types, cells, nodes, marks, queue, bound) {
-        Judged::Good(kind) => Answer::Ran(place_and_run(
+        Judged::Good(kind) => Ok(place_and_run(
             heap, bound, frames, structs, types, cells, nodes, words, limit,
         )),
-        Judged::Bad(refusal) => Answer::Refused(refusal),
+        Judged::Bad(refusal) => Err(refusal),
     }
 }
 
@@ -235,7 +234,7 @@ fn place_and_run(
 ) -> Outcome
     ensures { (image : List ℕ) (c : Content) (marks queue : List ℕ)
         → Prepared image heap.old words c structs.now types.now cells.now nodes.now marks queue bound.old frames.old
-        → answering (Answer.Ran result) heap.new ≡ ran heap.old (content_run heap.old limit c) }
+        → answering (Ok result) heap.new ≡ ran heap.old (content_run heap.old limit c) }
 {
     clear(heap, words);
     place_cells(heap, cells);
