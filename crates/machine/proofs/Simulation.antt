@@ -16,14 +16,14 @@ use Rattle.calculus.specs.declared.Outcome.{Outcome}
 use Rattle.image.specs.Shape.{height}
 use Rattle.yields.specs.declared.Hint.{Hint}
 use Rattle.yields.specs.declared.Terms.{Terms}
-use Rattle.yields.specs.Malloc.{one_more, start_hint}
+use Rattle.yields.specs.Malloc.{one_more}
 use Rattle.yields.proofs.GivesAs.{OnTerms}
 use Rattle.yields.proofs.Zeroed.{HintHolds}
 use Rattle.machine.specs.declared.Focus.{Focus}
 use Rattle.machine.specs.declared.Focus.TheVariants.{Node}
 use Rattle.machine.specs.States.{Moved, moved, state, first_of}
 use Rattle.machine.specs.States as states
-use Rattle.machine.specs.Turns.{Finished, finished, after, drive, driven}
+use Rattle.machine.specs.Turns.{Finished, finished, after, first_state, drive, driven}
 use Rattle.machine.specs.Ready.{Ready}
 use Rattle.machine.specs.Entry.{AsDefined, Stepped}
 use Rattle.machine.proofs.Fill.{fill, fill_none}
@@ -210,7 +210,7 @@ simulated {S} {T} {H} {e} {ws} {heap} {frames} {bound} {table} {structs} {types}
     let L : OnTerms S T ws structs types = on_terms r in
     let w : Waits table (height e) 0 0 0 e = record { spans = r.nodes_held; scoped = r.expr_scoped; small = r.expr_small; room = omega arith } in
     let s : SimNodes table (height e) (Node 0) 0 0 false frames bound (fill 0 [] e) (0 + ticks e) = at_node bottom no_lets w in
-    let m : Memory T (height e) H (start_hint T) frames bound = record {
+    let m : Memory T (height e) H (first_state T).hint frames bound = record {
       heap_small = r.heap_small;
       heap_long = r.heap_long;
       hint_right = record { from_low = omega arith; none = λ k a z p n v. absurd (omega arith) };
@@ -218,7 +218,7 @@ simulated {S} {T} {H} {e} {ws} {heap} {frames} {bound} {table} {structs} {types}
       bound_room = r.bound_room;
     } in
     let enough : 0 + ticks e < length table = omega (arith, few_ticks e, r.nodes_fill) in
-    let a = (runs L table (height e) (nodes e) r.nodes_fill (length table)).from H 0 0 (start_hint T) m s enough (omega arith) in
+    let a = (runs L table (height e) (nodes e) r.nodes_fill (length table)).from H 0 0 (first_state T).hint m s enough (omega arith) in
     let b = rw (fill_none 0 e) at a in
     let z : T.limit - 0 ≡ T.limit = omega arith in
     rw r.heap_held

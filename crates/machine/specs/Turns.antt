@@ -32,6 +32,10 @@ abbrev pub by_focus : {A : Type 0} → Focus → (ℕ → A) → (Coded → A) �
 by_focus (Node at) node value = node at
 by_focus (Value v) node value = value v
 
+-- where a run starts: at node 0, and malloc at the lowest address
+abbrev pub first_state : Terms → State
+first_state T = state (Node 0) 0 0 false 0 0 (start_hint T)
+
 module _ (nodes structs types : List ℕ) (T : Terms) where
   -- one transition: a node is in focus, or a value
   unfoldable pub transition : (ws frames bound : List ℕ) → State → Moved
@@ -44,4 +48,4 @@ module _ (nodes structs types : List ℕ) (T : Terms) where
 
   -- a node is entered once, and each of its parts hands back one value: four numbers of the table are one node's, and enough
   unfoldable pub driven : (ws frames bound : List ℕ) → Finished
-  driven ws frames bound = drive (length nodes) (state (Node 0) 0 0 false 0 0 (start_hint T)) ws frames bound
+  driven ws frames bound = drive (length nodes) (first_state T) ws frames bound
