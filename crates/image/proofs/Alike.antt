@@ -66,7 +66,9 @@ module _ (image : List ℕ) (t : Tables) where
       (gives_more (λ n next s. s.limited_by) (below_gives fault.Unknown (length t.types) image at)))
     where
       go : (r : Parsed ℕ) → Gives (λ n next. n < length t.types) r
-          → Alike (λ k κ. k ≡ packed κ) (then_read r (λ n next. got (get_or (map packed t.types) n 0) next)) (then_read r (λ n next. got (get_or t.types n Int) next))
+          → Alike (λ k κ. k ≡ packed κ)
+          (then_read r (λ n next. got (get_or (map packed t.types) n 0) next))
+          (then_read r (λ n next. got (get_or t.types n Int) next))
       go (got n next) (gives l) = alike (get_or-map packed t.types n Int 0 l)
       go (refused f p) g = alike_refused
 

@@ -44,7 +44,8 @@ module _ {A B : Type 0} {P : A → List ℕ → Type 0} {Q : B → List ℕ → 
   fills_onward go go' fills_none k = fills_none
 
   -- what was read is told in another way
-  pub fills_as : {r : Parsed A} {f : Filled (Result ℕ Refusal)} (g : A → B) → Fills P r f → ((a : A) (next : ℕ) (t : List ℕ) → r ≡ got a next → P a t → Q (g a) t)
+  pub fills_as : {r : Parsed A} {f : Filled (Result ℕ Refusal)} (g : A → B) → Fills P r f
+      → ((a : A) (next : ℕ) (t : List ℕ) → r ≡ got a next → P a t → Q (g a) t)
       → Fills Q (then_read r (λ a next. got (g a) next)) f
   fills_as g (fills {a} {next} {t} p) k = fills (k a next t refl p)
   fills_as g fills_none k = fills_none

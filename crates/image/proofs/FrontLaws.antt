@@ -218,7 +218,8 @@ pub record PlacedOpened (cs : List ℕ) (ps : List Placed) (next : ℕ) (F : Fil
   pub count : C ≡ length ps
   pub table_of : 3 * C ≤ length cs → CellTable C cs ps F.table
 
-pub placed_opened : {cs : List ℕ} {ps : List Placed} {next : ℕ} {F : Filled (Result (Read ℕ) Refusal)} → PlacedAre cs (got ps next) F → PlacedOpened cs ps next F
+pub placed_opened : {cs : List ℕ} {ps : List Placed} {next : ℕ} {F : Filled (Result (Read ℕ) Refusal)} → PlacedAre cs (got ps next) F
+    → PlacedOpened cs ps next F
 placed_opened (placed_are {C = C} c t) = record { C = C; answer = refl; count = c; table_of = t }
 
 pub placed_unopened : {cs : List ℕ} {f : Fault} {p : ℕ} {F : Filled (Result (Read ℕ) Refusal)} → PlacedAre cs (refused f p) F → F.result ≡ Err (refusal f p)

@@ -84,7 +84,8 @@ module _ (words : ℕ) (image ss ts cs ns : List ℕ) (room : 256 ≤ length ts)
           expression_result image t codes o.S o.held.types_table.codes o.held.structs_count at₃ ns
 
       held : {e : Expr} {at₄ : ℕ} → read_expr image t at₃ ≡ got e at₄
-          → ContentHeld ss ts cs ns (record { format = m; tables = t; cells = ps; expr = e }) (tables_into image at₁ ss ts).structs (tables_into image at₁ ss ts).types
+          → ContentHeld ss ts cs ns (record { format = m; tables = t; cells = ps; expr = e })
+          (tables_into image at₁ ss ts).structs (tables_into image at₁ ss ts).types
           (placed_into image words (tables_into image at₁ ss ts).types (o.T + 1) at₂ cs).table
           (expression_into image codes o.S at₃ ns).table
       held e₄ =

@@ -69,7 +69,8 @@ one_into_lem o w (stopped e) = stopped (e ∙ w.kept.long)
 
 -- a node with two parts, of which `mk` makes the expression
 module _ (mk : Expr → Expr → Expr) (operation : Operation) (counts : (a b : Expr) → nodes (mk a b) ≡ suc (nodes a + nodes b))
-    (spanned : (t : List ℕ) (i : ℕ) (a b : Expr) → Row t i operation 0 0 (suc i + nodes a) → Spans t (suc i) a → Spans t (suc i + nodes a) b → Spans t i (mk a b))
+    (spanned : (t : List ℕ) (i : ℕ) (a b : Expr)
+    → Row t i operation 0 0 (suc i + nodes a) → Spans t (suc i) a → Spans t (suc i + nodes a) b → Spans t i (mk a b))
     {t t₁ : List ℕ} {i : ℕ} (w : Opened t i t₁ operation 0 0) where
   -- the first part went into t₂, the second behind it
   second_after : {a : Expr} {count : ℕ} {t₂ : List ℕ} {F : Noded} {r : Parsed Expr}
@@ -164,7 +165,8 @@ test_into : (t : List ℕ) (i : ℕ) (b : Bool) (x y : Unit {0} → Headed) (x' 
 test_into t i true x y x' y' p q = p
 test_into t i false x y x' y' p q = q
 
-cut_into : (t : List ℕ) (i at : ℕ) (r : Parsed ℕ) → Into t i (on_read r t (λ _ _. filled (Err (refusal fault.Limit at)) t)) (then_read r (λ _ _. refused fault.Limit at))
+cut_into : (t : List ℕ) (i at : ℕ) (r : Parsed ℕ)
+    → Into t i (on_read r t (λ _ _. filled (Err (refusal fault.Limit at)) t)) (then_read r (λ _ _. refused fault.Limit at))
 cut_into t i at (got v next) = stopped refl
 cut_into t i at (refused f p) = stopped refl
 

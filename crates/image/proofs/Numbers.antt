@@ -47,7 +47,7 @@ below_gives f limit image at =
     (λ l. gives (record { behind = s.behind; within = s.within; fits = s.fits; limited_by = ltb-true v limit l }))
     (λ _. gives_none))
 
--- what the code knows of a number below a limit, by the reading that it was answered
+-- what the code knows of a number below a limit; the equation shows the search the call that it is about
 pub below_small : (f : Fault) (limit : ℕ) (image : List ℕ) (at : ℕ)
     → (below f limit image at ≡ below f limit image at) × IfGot (below f limit image at) (λ v _. (v < limit) × (v < 2 ^ 32))
 below_small f limit image at = (refl, if_got (gives_more (λ v next s. (s.limited_by, s.fits)) (below_gives f limit image at)))

@@ -35,7 +35,11 @@ pub marked_more : {marks : List Bool} {t : List ℕ} {n : ℕ} (code : ℕ) → 
 marked_more {marks} {t} {n} code m =
     record {
       wide = length-set marks (code % 1021) true ∙ m.wide;
-      mark = λ j h l. ⊎_elim (λ e. last j e (omega (arith, length-set t n code))) (λ p. other j p (omega (arith, length-set t n code))) (eq-or-lt_of_le (omega arith));
+      mark = λ j h l.
+          ⊎_elim
+          (λ e. last j e (omega (arith, length-set t n code)))
+          (λ p. other j p (omega (arith, length-set t n code)))
+          (eq-or-lt_of_le (omega arith));
     }
   where
     room : code % 1021 < length marks

@@ -13,7 +13,7 @@ use calculus::{Fault, Refusal};
 use numbers::Read;
 
 // The format, the tables and the cells of the image, over a heap of `words` words, into the lent tables.
-#[tactic(auto, using(crate::proofs::TableLaws::tables_small), unfolding(crate::specs::Tabling::front_into))]
+#[tactic(auto, using(crate::proofs::AnswerBounds::tables_small), unfolding(crate::specs::Tabling::front_into))]
 pub fn read_front(
     structs: &mut [u64],
     types: &mut [u64],

@@ -47,7 +47,7 @@ pub fn read_placed(
 
 impl CellReader<'_> {
     // `count` cells from `first` on: the offset behind them.
-    #[tactic(auto, using(crate::proofs::Turns::cells_turn, crate::proofs::TableLaws::row_small), unfolding(crate::specs::Tabling::cells_into))]
+    #[tactic(auto, using(crate::proofs::Turns::cells_turn, crate::proofs::AnswerBounds::row_small), unfolding(crate::specs::Tabling::cells_into))]
     fn read_cells(&self, cells: &mut [u64], first: usize, count: usize) -> Result<usize, Refusal>
         requires { count ≤ 4096 }
         ensures { filled result cells.new ≡ cells_into self.now.image.now self.now.words self.now.types.now self.now.known count 0 0 first cells.old }

@@ -8,7 +8,7 @@ use crate::nodes::read_expression;
 use calculus::{Fault, Refusal};
 
 // The image over a heap of `words` words: the structs, the word types, the cells and the nodes that it holds, or its refusal.
-#[tactic(auto, using(crate::proofs::TableLaws::front_small), unfolding(crate::specs::Loaded::load_into))]
+#[tactic(auto, using(crate::proofs::AnswerBounds::front_small), unfolding(crate::specs::Loaded::load_into))]
 pub fn load(
     image: &[u8],
     words: usize,

@@ -59,7 +59,7 @@ pub fn read_expression(
 impl NodeReader<'_> {
     // The node at `at` with its parts, at most `depth` deep and inside `lets` lets, into the rows from its own number on: how many nodes
     // were read up to there.
-    #[tactic(auto, using(crate::proofs::TableLaws::head_small), unfolding(crate::specs::Filling::node_into))]
+    #[tactic(auto, using(crate::proofs::AnswerBounds::head_small), unfolding(crate::specs::Filling::node_into))]
     fn read_node(
         &self,
         table: &mut [u64],

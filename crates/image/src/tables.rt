@@ -12,7 +12,7 @@ use cells::put;
 use numbers::Read;
 
 // The counts at `at` and the tables behind them, into the lent tables.
-#[tactic(auto, using(crate::proofs::TableLaws::counts_small), unfolding(crate::specs::Tabling::tables_into))]
+#[tactic(auto, using(crate::proofs::AnswerBounds::counts_small), unfolding(crate::specs::Tabling::tables_into))]
 pub fn read_tables(
     structs: &mut [u64],
     types: &mut [u64],

@@ -1,5 +1,5 @@
--- Of the counts that were read, as the code was answered them: they are within the limits.
--- Assumes nothing.
+-- How large what the code is answered can be. Each fact begins with an equation between the reading and itself: by that call the search
+-- finds it. Assumes nothing.
 use mathlib.Core.Path.{◌≡◌, refl}
 use mathlib.Core.List.{List}
 use Prim.Native.Nat.{ℕ, ◌<◌, ◌≤◌}
@@ -12,6 +12,7 @@ use Rattle.image.specs.Filling.{head_into}
 use Rattle.image.proofs.Numbers.{below_small}
 use Rattle.image.proofs.Gives.{IfGot}
 
+-- the counts of structs and pointer types are within their limits
 abbrev pub Few : TableCounts → Type 0
 Few c = (c.structs ≤ 32) × (c.types ≤ 255)
 
