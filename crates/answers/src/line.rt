@@ -15,7 +15,8 @@ use calculus::{End, Halt, Outcome, Refusal};
 use cells::{Kind, Mode};
 use itoa::Buffer;
 
-// Lent bytes, and how many bytes of the line stand before the next: far fewer than where a sum would wrap, which is asked for.
+// Lent bytes, and how many bytes of the line stand before the next.
+// Methods ask for a bound on `at`, so that no sum wraps: the type could not keep one, since each write raises it.
 #[derive(Drop)]
 struct Line<'a> {
     out: &'a mut [u8],
