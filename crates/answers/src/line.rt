@@ -5,8 +5,7 @@
 
 ghost use Rattle.std.specs.Prelude.{◌+◌, ◌<◌, ◌≤◌, ◌≡◌, [], ◌∷◌, ◌++◌, length};
 ghost use Rattle.std.proofs.lemmas.List.Edits.{sets};
-ghost use Rattle.calculus.specs.Answers.{end_value, end_kind};
-ghost use Rattle.answers.specs.Line.{decimal, kind_word, halt_word, end_word, line, mode_letter, spaced};
+ghost use Rattle.answers.specs.Line.{decimal, kind_word, halt_word, end_word, line, mode_letter};
 ghost use Rattle.answers.specs.Written.{wrote};
 
 use crate::Answer;
