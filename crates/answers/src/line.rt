@@ -5,8 +5,7 @@
 
 ghost use Rattle.std.specs.Prelude.{◌+◌, ◌<◌, ◌≤◌, ◌≡◌, [], ◌∷◌, ◌++◌, length};
 ghost use Rattle.std.proofs.lemmas.List.Edits.{sets};
-ghost use Rattle.calculus.specs.Answers.{end_value, end_kind};
-ghost use Rattle.answers.specs.Line.{decimal, kind_word, halt_word, end_word, line, mode_letter, spaced};
+ghost use Rattle.answers.specs.Line.{decimal, kind_word, halt_word, end_word, line, mode_letter};
 ghost use Rattle.answers.specs.Written.{wrote};
 
 use crate::Answer;
@@ -15,7 +14,8 @@ use calculus::{End, Halt, Outcome, Refusal};
 use cells::{Kind, Mode};
 use itoa::Buffer;
 
-// Lent bytes, and how many bytes of the line stand before the next: far fewer than where a sum would wrap, which is asked for.
+// Lent bytes, and how many bytes of the line stand before the next.
+// Methods ask for a bound on `at`, so that no sum wraps: the type could not keep one, since each write raises it.
 #[derive(Drop)]
 struct Line<'a> {
     out: &'a mut [u8],
