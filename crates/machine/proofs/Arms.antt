@@ -3,7 +3,7 @@ use Rattle.std.proofs.Common.{◌≡◌, ℕ, Bool, List, refl}
 use Rattle.calculus.specs.declared.Act.{Act}
 use Rattle.calculus.specs.declared.Operation.{Operation}
 use Rattle.calculus.specs.declared.Operation.TheVariants as op
-use Rattle.machine.specs.declared.Coded.{Coded}
+use Rattle.machine.specs.declared.CodedValue.{CodedValue}
 use Rattle.machine.specs.declared.State.{State}
 use Rattle.yields.specs.declared.Terms.{Terms}
 use Rattle.yields.specs.declared.Yield.TheVariants.{Blocked}
@@ -39,7 +39,7 @@ module _ (structs types : List ℕ) (terms : Terms) (ws frames bound : List ℕ)
   not_leaf op.Field l v m = refl
   not_leaf op.Unknown l v m = refl
 
-module _ (structs : List ℕ) (words : ℕ) (ws : List ℕ) (v : Coded) (argument kind : ℕ) where
+module _ (structs : List ℕ) (words : ℕ) (ws : List ℕ) (v : CodedValue) (argument kind : ℕ) where
   pub not_single : (o : Operation) → (o ≡ op.Unchecked → ⊥) → (o ≡ op.Cast → ⊥) → (o ≡ op.Read → ⊥) → (o ≡ op.Field → ⊥)
       → one_yield structs words ws v o argument kind ≡ Blocked
   unfolding one_yield

@@ -11,10 +11,10 @@ use Rattle.calculus.specs.declared.Operation.TheVariants.{Literal}
 use Rattle.image.specs.Tabled.{Row}
 use Rattle.yields.specs.declared.Yield.{Yield}
 use Rattle.yields.specs.Yields.{given_on}
-use Rattle.machine.specs.declared.Coded.{Coded}
+use Rattle.machine.specs.declared.CodedValue.{CodedValue}
 use Rattle.machine.specs.declared.State.{State}
-use Rattle.machine.specs.States.{Turn, contracted, leaving, written, settled}
-use Rattle.machine.specs.Rows.{in_row, node, node_at, frame, first_value, frame_at, framed, kept}
+use Rattle.machine.specs.States.{Turn, contracted, leaving, word_written, settled}
+use Rattle.machine.specs.Rows.{in_row, node, node_at, frame_row, first_value, frame_at, framed, kept}
 
 -- ---- a node that is no literal is there: past the end the code is 0
 pub node_there : (t : List ℕ) (i : ℕ) → ((node_at t i).operation ≡ Literal → ⊥) → i < length t / 4
@@ -52,7 +52,7 @@ pub length_framed : (t : List ℕ) (i node : ℕ) (inside : Bool) → length (fr
 unfolding framed
 length_framed t i node inside = grind (arith, common_steps)
 
-pub length_kept : (t : List ℕ) (i : ℕ) (v : Coded) → length (kept t i v) ≡ length t
+pub length_kept : (t : List ℕ) (i : ℕ) (v : CodedValue) → length (kept t i v) ≡ length t
 unfolding kept
 length_kept t i v = grind (arith, common_steps)
 
@@ -62,7 +62,7 @@ flag_back true = refl
 flag_back false = refl
 
 frame_of : (t : List ℕ) (i : ℕ) {a c d : ℕ} (b : Bool) → in_row t i 0 ≡ a → in_row t i 1 ≡ from_bool b → in_row t i 2 ≡ c → in_row t i 3 ≡ d
-    → frame_at t i ≡ frame a b (first_value c d)
+    → frame_at t i ≡ frame_row a b (first_value c d)
 unfolding frame_at
 frame_of t i b e₀ e₁ e₂ e₃ = rw (e₀, e₁, e₂, e₃, flag_back)
 
@@ -89,19 +89,19 @@ module _ (t : List ℕ) (i node : ℕ) (inside : Bool) where
   unfolding framed
   framed_below = below t (framed t i node inside) i (length_framed t i node inside) (λ k l. grind (arith, common_steps))
 
-  pub frame_put : i < length t / 4 → frame_at (framed t i node inside) i ≡ frame node inside None
+  pub frame_put : i < length t / 4 → frame_at (framed t i node inside) i ≡ frame_row node inside None
   unfolding framed in_row
   frame_put h =
       frame_of (framed t i node inside) i {c = 0} {d = 0} inside (grind (arith, common_steps)) (grind (arith, common_steps))
       (grind (arith, common_steps)) (grind (arith, common_steps))
 
-module _ (t : List ℕ) (i : ℕ) (v : Coded) where
+module _ (t : List ℕ) (i : ℕ) (v : CodedValue) where
   pub kept_below : SameBelow i t (kept t i v)
   unfolding kept
   kept_below = below t (kept t i v) i (length_kept t i v) (λ k l. grind (arith, common_steps))
 
   -- the node and its mode stay, and the value is found again
-  value_kept : i < length t / 4 → (v.code ≡ 0 → ⊥) → frame_at (kept t i v) i ≡ frame (frame_at t i).node (frame_at t i).inside (Some v)
+  value_kept : i < length t / 4 → (v.code ≡ 0 → ⊥) → frame_at (kept t i v) i ≡ frame_row (frame_at t i).node (frame_at t i).inside (Some v)
   unfolding frame_at kept in_row
   value_kept h n =
       let e₀ : in_row (kept t i v) i 0 ≡ in_row t i 0 = grind (arith, common_steps) in
@@ -110,8 +110,8 @@ module _ (t : List ℕ) (i : ℕ) (v : Coded) where
       let e₃ : in_row (kept t i v) i 3 ≡ v.code = grind (arith, common_steps) in
       rw (e₀, e₁, e₂, e₃, ne_eqb v.code 0 n)
 
-  pub frame_kept : {node : ℕ} {inside : Bool} {d : Option Coded} → i < length t / 4 → (v.code ≡ 0 → ⊥) → frame_at t i ≡ frame node inside d
-      → frame_at (kept t i v) i ≡ frame node inside (Some v)
+  pub frame_kept : {node : ℕ} {inside : Bool} {d : Option CodedValue} → i < length t / 4 → (v.code ≡ 0 → ⊥) → frame_at t i ≡ frame_row node inside d
+      → frame_at (kept t i v) i ≡ frame_row node inside (Some v)
   frame_kept h n e = value_kept h n ∙ rw e
 
 -- ---- bound values, in words
@@ -133,7 +133,7 @@ module _ (t : List ℕ) (i value code : ℕ) (h : i < length t / 2) where
       record { value_is = number_other j 0 l (omega arith) ∙ w.value_is; code_is = number_other j 1 l (omega arith) ∙ w.code_is }
 
 -- ---- the heap where a transition ends the run, or leaves it as it is
-pub written_same : (r : Turn) (ws : List ℕ) → leaving r ws ≡ written r ws ws
+pub written_same : (r : Turn) (ws : List ℕ) → leaving r ws ≡ word_written r ws ws
 written_same (Continue s) ws = refl
 written_same (Break o) ws = refl
 

@@ -13,7 +13,7 @@ use Rattle.image.specs.Shape.{SmallOne, small_cast}
 use Rattle.image.specs.Tabled.{one_operation, one_argument, one_kind}
 use Rattle.yields.specs.declared.Terms.{Terms}
 use Rattle.yields.proofs.GivesAs.{GivesAs, OnTerms, gives_on, read_as, field_as}
-use Rattle.machine.specs.States.{coded}
+use Rattle.machine.specs.States.{coded_value}
 use Rattle.machine.specs.Redexes.{one_yield}
 use Rattle.machine.specs.Ready.{Ready}
 
@@ -46,12 +46,12 @@ on_terms {S} r =
 
 module _ {S : Setting} {T : Terms} {ws structs types : List ℕ} (L : OnTerms S T ws structs types) (H : Heap) (s : SmallHeap H)
     (long : length H ≡ T.words) where
-  pub one_as : (o : One) (c : Cell) → SmallOne o → Small c.kind
+  pub node_as : (o : One) (c : Cell) → SmallOne o → Small c.kind
       → GivesAs H ws (lent H ws)
-      (one_yield structs T.words (lent H ws) (coded c.value (packed c.kind)) (one_operation o) (one_argument o) (one_kind o))
+      (one_yield structs T.words (lent H ws) (coded_value c.value (packed c.kind)) (one_operation o) (one_argument o) (one_kind o))
       (one_redex S H o c.value c.kind)
   unfolding one_yield
-  one_as unchecked c o k = gives_on L H s long c k
-  one_as (cast κ) c (small_cast o) k = gives_on L H s long (cell c.value κ) o
-  one_as read c o k = read_as L H s long c.value c.kind k
-  one_as (field f) c o k = field_as L H s long f c.value c.kind k
+  node_as unchecked c o k = gives_on L H s long c k
+  node_as (cast κ) c (small_cast o) k = gives_on L H s long (cell c.value κ) o
+  node_as read c o k = read_as L H s long c.value c.kind k
+  node_as (field f) c o k = field_as L H s long f c.value c.kind k

@@ -27,9 +27,9 @@ use Rattle.machine.specs.Turns.{Finished, finished, after, first_state, drive, d
 use Rattle.machine.specs.Ready.{Ready}
 use Rattle.machine.specs.Entry.{AsDefined, Stepped}
 use Rattle.machine.proofs.Fill.{fill, fill_none}
-use Rattle.machine.proofs.Stack.{ticks, few_ticks, in_block, Waits, bottom, no_lets}
+use Rattle.machine.proofs.Stack.{ticks, few_ticks, mode_inside, Waits, bottom, no_lets}
 use Rattle.machine.proofs.Ready.{on_terms}
-use Rattle.machine.proofs.Transitions.{SimNodes, at_node, Goes, is_done, is_quiet, is_stuck, is_halt, is_step, goes}
+use Rattle.machine.proofs.Transitions.{SimNodes, at_node, Goes, is_done, is_quiet, is_stuck, is_halt, is_step, goes_lem}
 
 -- the number of the first unchecked step, where s steps with first unchecked step f came before those counted by q
 later_first : (s f q : ℕ) → ℕ
@@ -46,13 +46,13 @@ unfolding later_first
 first_none s zero = refl
 first_none s (suc f) = refl
 
-first_now_lem : (s f : ℕ) (m : Mode) → s < 2 ^ 63 → first_of s f (in_block m) ≡ later_first s f (first_at m)
+first_now_lem : (s f : ℕ) (m : Mode) → s < 2 ^ 63 → first_of s f (mode_inside m) ≡ later_first s f (first_at m)
 unfolding later_first
 first_now_lem s zero Checked l = refl
 first_now_lem s zero Unchecked l = let e : one_more s ≡ s + 1 = omega arith in e
 first_now_lem s (suc f) m l = rw (ne_eqb (suc f) 0 (omega arith))
 
-first_later_lem : (s f : ℕ) (m : Mode) (q : ℕ) → s < 2 ^ 63 → later_first (suc s) (first_of s f (in_block m)) q ≡ later_first s f (first_after m q)
+first_later_lem : (s f : ℕ) (m : Mode) (q : ℕ) → s < 2 ^ 63 → later_first (suc s) (first_of s f (mode_inside m)) q ≡ later_first s f (first_after m q)
 unfolding later_first
 first_later_lem s zero Checked zero l = refl
 first_later_lem s zero Checked (suc q) l = omega arith
@@ -93,7 +93,7 @@ record Runs (S : Setting) (T : Terms) (ws structs types table : List ℕ) (R n :
       (run S (T.limit - steps) H e)
 
 -- a step of the machine is a step before the rest
-step_first : {words : ℕ} {ws : List ℕ} (x : Finished) (s f : ℕ) (m : Mode) (r : Result) → s < 2 ^ 63 → Agrees words ws x (suc s) (first_of s f (in_block m)) r
+step_first : {words : ℕ} {ws : List ℕ} (x : Finished) (s f : ℕ) (m : Mode) (r : Result) → s < 2 ^ 63 → Agrees words ws x (suc s) (first_of s f (mode_inside m)) r
     → Agrees words ws x s f (tick m r)
 step_first x s f m r l a =
     let e : suc s + r.outcome.steps ≡ s + suc r.outcome.steps = omega arith in
@@ -109,7 +109,7 @@ module _ {S : Setting} {T : Terms} {ws structs types : List ℕ} (L : OnTerms S 
     -- a halt, and a step: at the limit they are not taken
     halts : {h : Halt} {m : Mode} (e : Expr) (l : ℕ) → T.limit - steps ≡ l → step S Checked H e ≡ halt h m
         → Agrees T.words ws
-        (after (moved (states.halt T.limit (state (Node 0) 0 0 (in_block m) steps first ht) h) (lent H ws) frames bound) (drive table structs types T n))
+        (after (moved (states.halt T.limit (state (Node 0) 0 0 (mode_inside m) steps first ht) h) (lent H ws) frames bound) (drive table structs types T n))
         steps
         first
         (run S l H e)
@@ -126,7 +126,7 @@ module _ {S : Setting} {T : Terms} {ws structs types : List ℕ} (L : OnTerms S 
         (e : Expr) (l : ℕ) → T.limit - steps ≡ l
         → (T.limit ≤ steps → r ≡ moved (states.more (state (Node 0) 0 0 false steps first ht)) (lent H ws) frames bound)
         → (steps < T.limit
-        → r ≡ moved (states.goes (state f h lets x (one_more steps) (first_of steps first (in_block m)) ht')) (lent H' ws) frames' bound')
+        → r ≡ moved (states.goes (state f h lets x (one_more steps) (first_of steps first (mode_inside m)) ht')) (lent H' ws) frames' bound')
         → step S Checked H e ≡ next H' e' m → Memory T R H' ht' frames' bound'
         → SimNodes table R f h lets x frames' bound' e' left' → left' < n
         → Agrees T.words ws (after r (drive table structs types T n)) steps first (run S l H e)
@@ -137,12 +137,12 @@ module _ {S : Setting} {T : Terms} {ws structs types : List ℕ} (L : OnTerms S 
     stepping {f} {h} {lets} {x = x} {m = m} {H' = H'} {frames' = frames'} {bound' = bound'} {ht' = ht'} {r = r} e (suc l) d' q₀ q₁ z M' sim d =
         let left : T.limit - suc steps ≡ l = omega arith in
         let k : one_more steps ≡ suc steps = omega arith in
-        let q = first_of steps first (in_block m) in
+        let q = first_of steps first (mode_inside m) in
         let o : r ≡ moved (states.goes (state f h lets x (suc steps) q ht')) (lent H' ws) frames' bound' =
         q₁ (omega arith) ∙ ap (λ (n : ℕ). moved (states.goes (state f h lets x n q ht')) (lent H' ws) frames' bound') k in
         rw (z, o)
         (step_first _ steps first m _ (omega arith)
-        (rw left at (ih.from H' (suc steps) (first_of steps first (in_block m)) ht' M' sim d (omega arith))))
+        (rw left at (ih.from H' (suc steps) (first_of steps first (mode_inside m)) ht' M' sim d (omega arith))))
 
     -- one transition, and then n
     turns : {r : Moved} {e : Expr} {left : ℕ} → Goes L table R H frames bound steps first ht r e left → left < suc n
@@ -187,7 +187,7 @@ module _ {S : Setting} {T : Terms} {ws structs types : List ℕ} (L : OnTerms S 
         record {
           from = λ {frames = frames} {bound = bound} H steps first ht M s l few.
               turns n (runs n) H steps first ht frames bound M few
-              (goes L table R N whole H M.heap_small M.heap_long frames bound steps first ht M.hint_right M.frames_room M.bound_room s)
+              (goes_lem L table R N whole H M.heap_small M.heap_long frames bound steps first ht M.hint_right M.frames_room M.bound_room s)
               l;
         }
 

@@ -13,9 +13,9 @@ use Rattle.calculus.specs.declared.Act.{Act}
 use Rattle.calculus.specs.declared.Operation.TheVariants.{Let, Acts}
 use Rattle.image.specs.Tabled.{Row, Spans, one_operation, one_argument, one_kind}
 use Rattle.image.specs.Shape.{Scoped, SmallOne, SmallExpr, small_one, height}
-use Rattle.machine.specs.declared.Coded.{Coded}
-use Rattle.machine.specs.States.{coded}
-use Rattle.machine.specs.Rows.{frame, frame_at}
+use Rattle.machine.specs.declared.CodedValue.{CodedValue}
+use Rattle.machine.specs.States.{coded_value}
+use Rattle.machine.specs.Rows.{frame_row, frame_at}
 use Rattle.machine.proofs.Memory.{SameBelow, BoundWord, word_other}
 use Rattle.calculus.proofs.Contexts.{Hole, in_one, in_bound, in_left, in_right, under}
 use Rattle.machine.proofs.Fill.{fill}
@@ -46,13 +46,13 @@ few_ticks (one o e) = omega (arith, few_ticks e)
 few_ticks (two o a b) = omega (arith, few_ticks a, few_ticks b)
 
 -- whether code of a mode lies inside an unchecked block
-abbrev pub in_block : Mode → Bool
-in_block Checked = false
-in_block Unchecked = true
+abbrev pub mode_inside : Mode → Bool
+mode_inside Checked = false
+mode_inside Unchecked = true
 
 -- the value of a cell, with the code of its kind
-abbrev pub held : Cell → Coded
-held c = coded c.value (packed c.kind)
+abbrev pub held : Cell → CodedValue
+held c = coded_value c.value (packed c.kind)
 
 -- a part that is entered later: it stands in the table, inside so many lets, and there is room for it above `above` frames
 pub record Waits (t : List ℕ) (R j lets above : ℕ) (e : Expr) : Type 0 where
@@ -66,19 +66,19 @@ pub record Waits (t : List ℕ) (R j lets above : ℕ) (e : Expr) : Type 0 where
 pub data Stack (t : List ℕ) (R : ℕ) (frames : List ℕ) : (height : ℕ) → List Cell → List Hole → (left : ℕ) → Type 0 where
   bottom : Stack t R frames 0 [] [] 0
   on_one : {h l i : ℕ} {ρ : List Cell} {K : List Hole} {o : One} → Stack t R frames h ρ K l
-      → frame_at frames h ≡ frame i (in_block (under K)) None → Row t i (one_operation o) (one_argument o) (one_kind o) 0 → SmallOne o
+      → frame_at frames h ≡ frame_row i (mode_inside (under K)) None → Row t i (one_operation o) (one_argument o) (one_kind o) 0 → SmallOne o
       → Stack t R frames (suc h) ρ (in_one o ∷ K) (l + 1)
   on_bound : {h l i j : ℕ} {ρ : List Cell} {K : List Hole} {b : Expr} → Stack t R frames h ρ K l
-      → frame_at frames h ≡ frame i (in_block (under K)) None → Row t i Let 0 0 j → Waits t R j (suc (length ρ)) (suc h) b
+      → frame_at frames h ≡ frame_row i (mode_inside (under K)) None → Row t i Let 0 0 j → Waits t R j (suc (length ρ)) (suc h) b
       → Stack t R frames (suc h) ρ (in_bound (fill 1 ρ b) ∷ K) (l + 2 + ticks b)
   on_left : {h l i j : ℕ} {ρ : List Cell} {K : List Hole} {o : Act} {b : Expr} → Stack t R frames h ρ K l
-      → frame_at frames h ≡ frame i (in_block (under K)) None → Row t i (Acts o) 0 0 j → Waits t R j (length ρ) (suc h) b
+      → frame_at frames h ≡ frame_row i (mode_inside (under K)) None → Row t i (Acts o) 0 0 j → Waits t R j (length ρ) (suc h) b
       → Stack t R frames (suc h) ρ (in_left o (fill 0 ρ b) ∷ K) (l + 2 + ticks b)
   on_right : {h l i j : ℕ} {ρ : List Cell} {K : List Hole} {o : Act} {c : Cell} → Stack t R frames h ρ K l
-      → frame_at frames h ≡ frame i (in_block (under K)) (Some (held c)) → Row t i (Acts o) 0 0 j → Small c.kind
+      → frame_at frames h ≡ frame_row i (mode_inside (under K)) (Some (held c)) → Row t i (Acts o) 0 0 j → Small c.kind
       → Stack t R frames (suc h) ρ (in_right o c ∷ K) (l + 1)
   on_body : {h l i j : ℕ} {ρ : List Cell} {K : List Hole} {c : Cell} → Stack t R frames h ρ K l
-      → frame_at frames h ≡ frame i (in_block (under K)) (Some (held c)) → Row t i Let 0 0 j
+      → frame_at frames h ≡ frame_row i (mode_inside (under K)) (Some (held c)) → Row t i Let 0 0 j
       → Stack t R frames (suc h) (c ∷ ρ) K (l + 1)
 
 -- the values stand in the lent list as words in a heap, the outermost at address 1

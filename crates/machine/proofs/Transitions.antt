@@ -34,13 +34,13 @@ use Rattle.yields.specs.Malloc.{one_more, room_hint}
 use Rattle.yields.specs.Yields.{given_on, act_gives}
 use Rattle.yields.proofs.GivesAs.{HeapNext, GivesAs, as_blocked, as_halts, as_gives, OnTerms, act_as}
 use Rattle.yields.proofs.Zeroed.{HintHolds, hint_after, found_as, taken_as, hint_as}
-use Rattle.machine.specs.declared.Coded.{Coded}
+use Rattle.machine.specs.declared.CodedValue.{CodedValue}
 use Rattle.machine.specs.declared.Focus.{Focus}
 use Rattle.machine.specs.declared.Focus.TheVariants as focus
 use Rattle.machine.specs.declared.State.{State}
-use Rattle.machine.specs.States.{Leaving, Moved, leaving, moved, on_heap, coded, state, first_of, stepped, with_value, with_hint, more, contracted, settled}
+use Rattle.machine.specs.States.{Leaving, Moved, leaving, moved, on_heap, coded_value, state, first_of, stepped, with_value, with_hint, more, contracted, settled}
 use Rattle.machine.specs.States as states
-use Rattle.machine.specs.Rows.{node, frame, frame_at, framed, kept}
+use Rattle.machine.specs.Rows.{node, frame_row, frame_at, framed, kept}
 use Rattle.machine.specs.Redexes.{one_yield}
 use Rattle.machine.specs.Malloc.{room_taken, room_found, room_for, room_at}
 use Rattle.machine.specs.Nodes.{inside_of, variable_at, first_part, entered}
@@ -50,16 +50,16 @@ use Rattle.machine.proofs.Memory.{written_same, settled_same, node_whole, framed
 use Rattle.machine.proofs.Memory.{frame_put, frame_kept, word_same, length_framed, length_kept}
 use Rattle.calculus.proofs.Contexts.{Hole, plugs, under, context, busy_stuck, busy_halt, busy_next}
 use Rattle.machine.proofs.Fill.{fill, fill_more, fill_bound}
-use Rattle.machine.proofs.Stack.{small_node, small_part, ticks, in_block, held, Waits, Stack, bottom, on_one, on_bound, on_left}
+use Rattle.machine.proofs.Stack.{small_node, small_part, ticks, mode_inside, held, Waits, Stack, bottom, on_one, on_bound, on_left}
 use Rattle.machine.proofs.Stack.{on_right, on_body, Env, one_let, stack_kept, env_kept, lets_few, env_at, env_small}
-use Rattle.machine.proofs.Ready.{one_as}
+use Rattle.machine.proofs.Ready.{node_as}
 
 -- SimNodes table R focus height lets inside frames bound e left: a machine in such a state holds the expression e, with at most `left`
 -- transitions to a value. There is room for R frames.
 pub data SimNodes (table : List ℕ) (R : ℕ) : Focus → (height lets : ℕ) (inside : Bool) → (frames bound : List ℕ) → Expr → (left : ℕ) → Type 0 where
   at_node : {h l i : ℕ} {ρ : List Cell} {K : List Hole} {e : Expr} {frames bound : List ℕ}
       → Stack table R frames h ρ K l → Env bound ρ → Waits table R i (length ρ) h e
-      → SimNodes table R (focus.Node i) h (length ρ) (in_block (under K)) frames bound (plugs K (fill 0 ρ e)) (l + ticks e)
+      → SimNodes table R (focus.Node i) h (length ρ) (mode_inside (under K)) frames bound (plugs K (fill 0 ρ e)) (l + ticks e)
   at_value : {h l : ℕ} {x : Bool} {ρ : List Cell} {K : List Hole} {c : Cell} {frames bound : List ℕ}
       → Stack table R frames h ρ K l → Env bound ρ → Small c.kind
       → SimNodes table R (focus.Value (held c)) h (length ρ) x frames bound (plugs K (lit c.value c.kind)) l
@@ -76,13 +76,13 @@ module _ {S : Setting} {T : Terms} {ws structs types : List ℕ} (L : OnTerms S 
         → r ≡ moved (states.goes (state f h lets x steps first ht)) (lent H ws) frames' bound
         → length frames' ≡ length frames → SimNodes table R f h lets x frames' bound e left' → left' < left
         → Goes H frames bound steps first ht r e left
-    is_stuck : {m : Mode} → r ≡ moved (states.stuck (state (focus.Node 0) 0 0 (in_block m) steps first ht)) (lent H ws) frames bound
+    is_stuck : {m : Mode} → r ≡ moved (states.stuck (state (focus.Node 0) 0 0 (mode_inside m) steps first ht)) (lent H ws) frames bound
         → step S Checked H e ≡ stuck m → Goes H frames bound steps first ht r e left
-    is_halt : {h : Halt} {m : Mode} → r ≡ moved (states.halt T.limit (state (focus.Node 0) 0 0 (in_block m) steps first ht) h) (lent H ws) frames bound
+    is_halt : {h : Halt} {m : Mode} → r ≡ moved (states.halt T.limit (state (focus.Node 0) 0 0 (mode_inside m) steps first ht) h) (lent H ws) frames bound
         → step S Checked H e ≡ halt h m → Goes H frames bound steps first ht r e left
     is_step : {f : Focus} {h lets : ℕ} {x : Bool} {left' : ℕ} {m : Mode} {H' : Heap} {e' : Expr} {frames' bound' : List ℕ} {ht' : Hint}
         → (T.limit ≤ steps → r ≡ moved (states.over (outcome_of ends.More steps first)) (lent H ws) frames bound)
-        → (steps < T.limit → r ≡ moved (states.goes (state f h lets x (one_more steps) (first_of steps first (in_block m)) ht')) (lent H' ws) frames' bound')
+        → (steps < T.limit → r ≡ moved (states.goes (state f h lets x (one_more steps) (first_of steps first (mode_inside m)) ht')) (lent H' ws) frames' bound')
         → step S Checked H e ≡ next H' e' m → SmallHeap H' → length H' ≡ length H → HintHolds H' T.low ht'
         → length frames' ≡ length frames → length bound' ≡ length bound → SimNodes table R f h lets x frames' bound' e' left' → left' < left
         → Goes H frames bound steps first ht r e left
@@ -152,7 +152,7 @@ module _ {S : Setting} {T : Terms} {ws structs types : List ℕ} (L : OnTerms S 
     -- ---- a redex contracts
     contracts : (f : Focus) {h l left : ℕ} {ρ : List Cell} {K : List Hole} {m : Leaving} {d : Redex} {r : Moved} (e : Expr)
         → Stack table R frames h ρ K l → Env bound ρ → step S (under K) H e ≡ redex_step (under K) d
-        → Does H hs hl (state f h (length ρ) (in_block (under K)) steps first ht) m d → r ≡ on_heap frames bound m → l < left
+        → Does H hs hl (state f h (length ρ) (mode_inside (under K)) steps first ht) m d → r ≡ on_heap frames bound m → l < left
         → Goes H frames bound steps first ht r (plugs K e) left
     contracts f {K = K} e s v q d_blocked w l = is_stuck {m = under K} w (context S H K e q busy_stuck)
     contracts f {K = K} e s v q (d_halts {h}) w l = is_halt {h = h} {m = under K} w (context S H K e q busy_halt)
@@ -161,7 +161,7 @@ module _ {S : Setting} {T : Terms} {ws structs types : List ℕ} (L : OnTerms S 
         {f = focus.Value (held c)}
         {h = h}
         {lets = length ρ}
-        {x = in_block (under K)}
+        {x = mode_inside (under K)}
         {m = under K}
         {ht' = ht'}
         (λ f. w ∙ ap (on_heap frames bound) (q₀ f))
@@ -176,15 +176,15 @@ module _ {S : Setting} {T : Terms} {ws structs types : List ℕ} (L : OnTerms S 
         l
 
     -- ---- a value is handed back
-    look_value : {i argument kind second : ℕ} {o : Operation} {m : Bool} {d : Option Coded} (h lets : ℕ) (x : Bool) (v : Coded)
-        → frame_at frames h ≡ frame i m d → Row table i o argument kind second
+    look_value : {i argument kind second : ℕ} {o : Operation} {m : Bool} {d : Option CodedValue} (h lets : ℕ) (x : Bool) (v : CodedValue)
+        → frame_at frames h ≡ frame_row i m d → Row table i o argument kind second
         → transition table structs types T (lent H ws) frames bound (state (focus.Value v) (suc h) lets x steps first ht)
         ≡ resumed_by d structs T (lent H ws) frames bound (state (focus.Value v) (suc h) lets x steps first ht) v (node o argument kind second) m
     unfolding transition handing
     look_value h lets x v e r = rw (ne_eqb (suc h) 0 (omega arith), less h, e, node_whole N whole r)
 
     -- the node in the frame goes on, by what it does
-    module _ (h lets : ℕ) (x m : Bool) (v : Coded) where
+    module _ (h lets : ℕ) (x m : Bool) (v : CodedValue) where
       after_one : (o : One)
           → resumed_by None structs T (lent H ws) frames bound (state (focus.Value v) (suc h) lets x steps first ht) v
           (node (one_operation o) (one_argument o) (one_kind o) 0) m
@@ -197,7 +197,7 @@ module _ {S : Setting} {T : Terms} {ws structs types : List ℕ} (L : OnTerms S 
       after_one read = rw (less h)
       after_one (field f) = rw (less h)
 
-      after_act : (j : ℕ) (o : Act) (d : Coded)
+      after_act : (j : ℕ) (o : Act) (d : CodedValue)
           → resumed_by (Some d) structs T (lent H ws) frames bound (state (focus.Value v) (suc h) lets x steps first ht) v (node (op.Acts o) 0 0 j) m
           ≡ on_heap frames bound (settled T.limit (state (focus.Value v) h lets m steps first ht) (lent H ws)
           (act_gives T.words (lent H ws) o v.value v.code d.value d.code))
@@ -223,7 +223,7 @@ module _ {S : Setting} {T : Terms} {ws structs types : List ℕ} (L : OnTerms S 
       unfolding after_first binding
       after_bound_more j l f = rw (lt-leb (length bound / 2) lets l, le-leb T.limit steps f)
 
-      after_body : (j : ℕ) (d : Coded)
+      after_body : (j : ℕ) (d : CodedValue)
           → resumed_by (Some d) structs T (lent H ws) frames bound (state (focus.Value v) (suc h) (suc lets) x steps first ht) v (node op.Let 0 0 j) m
           ≡ moved (states.goes (state (focus.Value v) h lets m steps first ht)) (lent H ws) frames bound
       unfolding after_second
@@ -245,12 +245,12 @@ module _ {S : Setting} {T : Terms} {ws structs types : List ℕ} (L : OnTerms S 
           s
           v
           refl
-          (contracted_does H hs hl _ hr (one_as L H hs hl o c so k))
-          (look_value h (length ρ) x (held c) e r ∙ after_one h (length ρ) x (in_block (under K)) (held c) o)
+          (contracted_does H hs hl _ hr (node_as L H hs hl o c so k))
+          (look_value h (length ρ) x (held c) e r ∙ after_one h (length ρ) x (mode_inside (under K)) (held c) o)
           (omega arith)
       handed {ρ = ρ} x c (on_bound {h} {l} {j = j} {K = K} {b = b} s e r w) v k =
           let few = lets_few s in
-          let m : Bool = in_block (under K) in
+          let m : Bool = mode_inside (under K) in
           let room = w.room in
           is_step
           {f = focus.Node j}
@@ -282,7 +282,7 @@ module _ {S : Setting} {T : Terms} {ws structs types : List ℕ} (L : OnTerms S 
           w))
           (omega arith)
       handed {ρ = ρ} x c (on_left {h} {j = j} {K = K} {o = o} s e r w) v k =
-          let m : Bool = in_block (under K) in
+          let m : Bool = mode_inside (under K) in
           let room = w.room in
           is_quiet
           {f = focus.Node j}
@@ -306,16 +306,16 @@ module _ {S : Setting} {T : Terms} {ws structs types : List ℕ} (L : OnTerms S 
           v
           refl
           (settled_does H hs hl _ hr (act_as L H hs hl o d c kd k))
-          (look_value h (length ρ) x (held c) e r ∙ after_act h (length ρ) x (in_block (under K)) (held c) j o (held d))
+          (look_value h (length ρ) x (held c) e r ∙ after_act h (length ρ) x (mode_inside (under K)) (held c) j o (held d))
           (omega arith)
       handed x c (on_body {h} {j = j} {ρ = ρ} {K = K} {c = d} s e r) (one_let v b kd) k =
           is_quiet
           {f = focus.Value (held c)}
           {h = h}
           {lets = length ρ}
-          {x = in_block (under K)}
+          {x = mode_inside (under K)}
           {frames' = frames}
-          (look_value h (suc (length ρ)) x (held c) e r ∙ after_body h (length ρ) x (in_block (under K)) (held c) j (held d))
+          (look_value h (suc (length ρ)) x (held c) e r ∙ after_body h (length ρ) x (mode_inside (under K)) (held c) j (held d))
           refl
           (at_value s v k)
           (omega arith)
@@ -340,15 +340,15 @@ module _ {S : Setting} {T : Terms} {ws structs types : List ℕ} (L : OnTerms S 
       enter_bound h lets x i l = rw (first_part_lem h lets x i op.Let l)
 
       enter_one : (h lets i : ℕ) (o : One) (m : Mode) → h < R
-          → entered structs types T (lent H ws) frames bound (state (focus.Node i) h lets (in_block m) steps first ht) i
+          → entered structs types T (lent H ws) frames bound (state (focus.Node i) h lets (mode_inside m) steps first ht) i
           (one_operation o) (one_argument o) (one_kind o)
-          ≡ moved (states.goes (state (focus.Node (suc i)) (suc h) lets (in_block (inside o m)) steps first ht)) (lent H ws)
-          (framed frames h i (in_block m)) bound
+          ≡ moved (states.goes (state (focus.Node (suc i)) (suc h) lets (mode_inside (inside o m)) steps first ht)) (lent H ws)
+          (framed frames h i (mode_inside m)) bound
       unfolding entered
-      enter_one h lets i unchecked m l = rw (first_part_lem h lets (in_block m) i op.Unchecked l)
-      enter_one h lets i (cast κ) m l = rw (first_part_lem h lets (in_block m) i op.Cast l)
-      enter_one h lets i read m l = rw (first_part_lem h lets (in_block m) i op.Read l)
-      enter_one h lets i (field f) m l = rw (first_part_lem h lets (in_block m) i op.Field l)
+      enter_one h lets i unchecked m l = rw (first_part_lem h lets (mode_inside m) i op.Unchecked l)
+      enter_one h lets i (cast κ) m l = rw (first_part_lem h lets (mode_inside m) i op.Cast l)
+      enter_one h lets i read m l = rw (first_part_lem h lets (mode_inside m) i op.Read l)
+      enter_one h lets i (field f) m l = rw (first_part_lem h lets (mode_inside m) i op.Field l)
 
       enter_act : (h lets i : ℕ) (o : Act) (x : Bool) → h < R
           → entered structs types T (lent H ws) frames bound (state (focus.Node i) h lets x steps first ht) i (op.Acts o) 0 0
@@ -359,18 +359,18 @@ module _ {S : Setting} {T : Terms} {ws structs types : List ℕ} (L : OnTerms S 
       entering : {h l i : ℕ} {ρ : List Cell} {K : List Hole} {e : Expr} → Stack table R frames h ρ K l → Env bound ρ
           → Spans table i e → Scoped (length ρ) e → SmallExpr e → h + height e ≤ R
           → Goes H frames bound steps first ht
-          (transition table structs types T (lent H ws) frames bound (state (focus.Node i) h (length ρ) (in_block (under K)) steps first ht))
+          (transition table structs types T (lent H ws) frames bound (state (focus.Node i) h (length ρ) (mode_inside (under K)) steps first ht))
           (plugs K (fill 0 ρ e))
           (l + ticks e)
       unfolding entered variable_at fill ticks height step
       entering {h} {ρ = ρ} {K = K} s v (s_lit {n = n} {κ = κ} r) sc (small_lit k) room =
           is_quiet
-          {f = focus.Value (coded n (packed κ))}
+          {f = focus.Value (coded_value n (packed κ))}
           {h = h}
           {lets = length ρ}
-          {x = in_block (under K)}
+          {x = mode_inside (under K)}
           {frames' = frames}
-          (look_node h (length ρ) (in_block (under K)) r)
+          (look_node h (length ρ) (mode_inside (under K)) r)
           refl
           (at_value {c = cell n κ} s v k)
           (omega arith)
@@ -381,10 +381,10 @@ module _ {S : Setting} {T : Terms} {ws structs types : List ℕ} (L : OnTerms S 
           {f = focus.Value (held (get_or ρ k (cell 0 Int)))}
           {h = h}
           {lets = length ρ}
-          {x = in_block (under K)}
+          {x = mode_inside (under K)}
           {left' = l}
           {frames' = frames}
-          (look_node h (length ρ) (in_block (under K)) r ∙ rw (lt-leb (length ρ) k b, a.value_is, a.code_is))
+          (look_node h (length ρ) (mode_inside (under K)) r ∙ rw (lt-leb (length ρ) k b, a.value_is, a.code_is))
           refl
           (at_value {c = get_or ρ k (cell 0 Int)} s v (env_small k v b))
           (omega arith))
@@ -395,11 +395,11 @@ module _ {S : Setting} {T : Terms} {ws structs types : List ℕ} (L : OnTerms S 
           s
           v
           refl
-          (malloc_does H hs hl (state (focus.Node i) h (length ρ) (in_block (under K)) steps first ht) (pointer Checked ω) hr k)
-          (look_node h (length ρ) (in_block (under K)) r)
+          (malloc_does H hs hl (state (focus.Node i) h (length ρ) (mode_inside (under K)) steps first ht) (pointer Checked ω) hr k)
+          (look_node h (length ρ) (mode_inside (under K)) r)
           (omega arith)
       entering {h} {i = i} {ρ = ρ} {K = K} s v (s_bind {a = a} {b = b} r sa sb) (scoped_bind ca cb) (small_bind ka kb) room =
-          let m : Bool = in_block (under K) in
+          let m : Bool = mode_inside (under K) in
           is_quiet
           {f = focus.Node (suc i)}
           {h = suc h}
@@ -419,12 +419,12 @@ module _ {S : Setting} {T : Terms} {ws structs types : List ℕ} (L : OnTerms S 
           (record { spans = sa; scoped = ca; small = ka; room = omega arith }))
           (omega arith)
       entering {h} {i = i} {ρ = ρ} {K = K} s v (s_one {o = o} {e = e} r sa) (scoped_one ca) sm room =
-          let m : Bool = in_block (under K) in
+          let m : Bool = mode_inside (under K) in
           is_quiet
           {f = focus.Node (suc i)}
           {h = suc h}
           {lets = length ρ}
-          {x = in_block (inside o (under K))}
+          {x = mode_inside (inside o (under K))}
           {frames' = framed frames h i m}
           (look_node h (length ρ) m r ∙ enter_one h (length ρ) i o (under K) (omega arith))
           (length_framed frames h i m)
@@ -434,7 +434,7 @@ module _ {S : Setting} {T : Terms} {ws structs types : List ℕ} (L : OnTerms S 
           (record { spans = sa; scoped = ca; small = small_part sm; room = omega arith }))
           (omega arith)
       entering {h} {i = i} {ρ = ρ} {K = K} s v (s_two {o = act o} {a = a} {b = b} r sa sb) (scoped_two ca cb) (small_two ka kb) room =
-          let m : Bool = in_block (under K) in
+          let m : Bool = mode_inside (under K) in
           is_quiet
           {f = focus.Node (suc i)}
           {h = suc h}
@@ -456,7 +456,7 @@ module _ {S : Setting} {T : Terms} {ws structs types : List ℕ} (L : OnTerms S 
           (omega arith)
 
       -- every transition is one of the expression's
-      pub goes : {f : Focus} {h lets : ℕ} {x : Bool} {e : Expr} {left : ℕ} → SimNodes table R f h lets x frames bound e left
+      pub goes_lem : {f : Focus} {h lets : ℕ} {x : Bool} {e : Expr} {left : ℕ} → SimNodes table R f h lets x frames bound e left
           → Goes H frames bound steps first ht (transition table structs types T (lent H ws) frames bound (state f h lets x steps first ht)) e left
-      goes (at_node s v w) = entering s v w.spans w.scoped w.small w.room
-      goes (at_value {x = x} {c = c} s v k) = handed x c s v k
+      goes_lem (at_node s v w) = entering s v w.spans w.scoped w.small w.room
+      goes_lem (at_value {x = x} {c = c} s v k) = handed x c s v k

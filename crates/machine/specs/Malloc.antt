@@ -7,12 +7,12 @@ use Rattle.tables.specs.Kinds.{size_at}
 use Rattle.yields.specs.declared.Terms.{Terms}
 use Rattle.yields.specs.Malloc.{zero_words, sought_from}
 use Rattle.machine.specs.declared.State.{State}
-use Rattle.machine.specs.States.{Leaving, leaving, written, stuck, halt, step_within, with_value, with_hint}
+use Rattle.machine.specs.States.{Leaving, leaving, word_written, stuck, halt, step_within, with_value, with_hint}
 
 -- the run found is taken, a step later, and remembered
 unfoldable pub room_taken : (structs types : List ℕ) (limit : ℕ) → List ℕ → State → (code size a : ℕ) → Leaving
 room_taken structs types limit ws s code size a =
-    written (step_within limit (with_hint (with_value s a code) size a)) ws (zero_words structs types code size a 0 ws)
+    word_written (step_within limit (with_hint (with_value s a code) size a)) ws (zero_words structs types code size a 0 ws)
 
 abbrev pub room_found : Option ℕ → (structs types : List ℕ) (limit : ℕ) → List ℕ → State → (code size : ℕ) → Leaving
 room_found (Some a) structs types limit ws s code size = room_taken structs types limit ws s code size a

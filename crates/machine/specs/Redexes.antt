@@ -5,10 +5,10 @@ use Rattle.calculus.specs.declared.Operation.TheVariants as op
 use Rattle.yields.specs.declared.Yield.{Yield}
 use Rattle.yields.specs.declared.Yield.TheVariants.{Gives, Blocked}
 use Rattle.yields.specs.Yields.{read_gives, field_gives}
-use Rattle.machine.specs.declared.Coded.{Coded}
+use Rattle.machine.specs.declared.CodedValue.{CodedValue}
 
 -- a node with one part, whose value is v; the argument and the kind are the node's own
-unfoldable pub one_yield : (structs : List ℕ) (words : ℕ) → List ℕ → Coded → Operation → (argument kind : ℕ) → Yield
+unfoldable pub one_yield : (structs : List ℕ) (words : ℕ) → List ℕ → CodedValue → Operation → (argument kind : ℕ) → Yield
 one_yield structs words ws v op.Unchecked argument kind = Gives v.value v.code
 one_yield structs words ws v op.Cast argument kind = Gives v.value kind
 one_yield structs words ws v op.Read argument kind = read_gives ws words v.value v.code

@@ -15,7 +15,7 @@ use Rattle.yields.specs.declared.Yield.{Yield}
 use Rattle.yields.specs.declared.Yield.TheVariants.{Gives, Halts, Blocked}
 use Rattle.yields.specs.Yields.{Given}
 use Rattle.yields.specs.Malloc.{one_more, room_hint}
-use Rattle.machine.specs.declared.Coded.{Coded}
+use Rattle.machine.specs.declared.CodedValue.{CodedValue}
 use Rattle.machine.specs.declared.Focus.{Focus}
 use Rattle.machine.specs.declared.Focus.TheVariants as focus
 use Rattle.machine.specs.declared.State.{State}
@@ -36,10 +36,10 @@ turned (Continue s) on ended = on s
 turned (Break o) on ended = ended o
 
 -- ---- states
-abbrev pub coded : (value code : ℕ) → Coded
-coded value code = record { value = value; code = code }
+abbrev pub coded_value : (value code : ℕ) → CodedValue
+coded_value value code = record { value = value; code = code }
 
-abbrev pub cell_of : Coded → Cell
+abbrev pub cell_of : CodedValue → Cell
 cell_of v = cell v.value (unpacked v.code)
 
 abbrev pub state : Focus → (height lets : ℕ) → Bool → (steps first : ℕ) → Hint → State
@@ -54,7 +54,7 @@ abbrev pub with_node : State → (at : ℕ) → State
 with_node s at = focused s (focus.Node at)
 
 abbrev pub with_value : State → (value code : ℕ) → State
-with_value s value code = focused s (focus.Value (coded value code))
+with_value s value code = focused s (focus.Value (coded_value value code))
 
 abbrev pub at_height : State → (height : ℕ) → Bool → State
 at_height s height inside = record s { height = height; inside = inside }
@@ -84,7 +84,7 @@ abbrev pub more : State → Turn
 more s = over (outcome_of ends.More s.steps s.first)
 
 -- the whole expression is this value
-abbrev pub done : State → Coded → Turn
+abbrev pub done : State → CodedValue → Turn
 done s v = over (outcome_of (ends.Value (cell_of v)) s.steps s.first)
 
 -- "Being Stuck is not" a step, and is told at the limit; "a halt is itself a step"
@@ -130,11 +130,11 @@ abbrev pub moved : Turn → (heap frames bound : List ℕ) → Moved
 moved t ws frames bound = record { turn = t; heap = ws; frames = frames; bound = bound }
 
 -- a table is another one where the machine goes on, and as it was where the run ends
-abbrev pub written : Turn → (t t' : List ℕ) → Leaving
-written r t t' = leaving r (turned r (λ _. t') (λ _. t))
+abbrev pub word_written : Turn → (t t' : List ℕ) → Leaving
+word_written r t t' = leaving r (turned r (λ _. t') (λ _. t))
 
 unfoldable pub settled : (limit : ℕ) → State → List ℕ → Given → Leaving
-settled limit s ws g = written (contracted limit s g.yield) ws g.heap
+settled limit s ws g = word_written (contracted limit s g.yield) ws g.heap
 
 -- the tables that a transition does not change stay as they are
 abbrev pub on_heap : (frames bound : List ℕ) → Leaving → Moved

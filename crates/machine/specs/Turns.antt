@@ -3,7 +3,7 @@ use Rattle.std.specs.Prelude.{ℕ, zero, suc, false, List, length}
 use Rattle.calculus.specs.Run.{outcome_of}
 use Rattle.calculus.specs.declared.End.TheVariants.{Stuck}
 use Rattle.calculus.specs.declared.Outcome.{Outcome}
-use Rattle.machine.specs.declared.Coded.{Coded}
+use Rattle.machine.specs.declared.CodedValue.{CodedValue}
 use Rattle.machine.specs.declared.Focus.{Focus}
 use Rattle.machine.specs.declared.Focus.TheVariants.{Node, Value}
 use Rattle.machine.specs.declared.State.{State}
@@ -28,7 +28,7 @@ abbrev pub after : Moved → (State → (ws frames bound : List ℕ) → Finishe
 after m go = turned m.turn (λ s. go s m.heap m.frames m.bound) (λ o. finished o m.heap m.frames m.bound)
 
 -- what is in focus, a node or a value
-abbrev pub by_focus : {A : Type 0} → Focus → (ℕ → A) → (Coded → A) → A
+abbrev pub by_focus : {A : Type 0} → Focus → (ℕ → A) → (CodedValue → A) → A
 by_focus (Node at) node value = node at
 by_focus (Value v) node value = value v
 

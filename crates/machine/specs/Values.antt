@@ -5,7 +5,7 @@ use Rattle.cells.specs.Lent.{put_word}
 use Rattle.calculus.specs.declared.Act.{Act}
 use Rattle.calculus.specs.declared.Operation.{Operation}
 use Rattle.calculus.specs.declared.Operation.TheVariants as op
-use Rattle.machine.specs.declared.Coded.{Coded}
+use Rattle.machine.specs.declared.CodedValue.{CodedValue}
 use Rattle.machine.specs.declared.Frame.{Frame}
 use Rattle.machine.specs.declared.Node.{Node}
 use Rattle.machine.specs.declared.State.{State}
@@ -30,11 +30,11 @@ by_parts op.Field binds acts other = other tt
 by_parts op.Unknown binds acts other = other tt
 
 -- the value of a node's first part is kept in its frame, and its second part is entered
-unfoldable pub second_part : List ℕ → State → Coded → (part : ℕ) → Leaving
+unfoldable pub second_part : List ℕ → State → CodedValue → (part : ℕ) → Leaving
 second_part frames s v part = leaving (goes (with_node s part)) (kept frames (s.height - 1) v)
 
 -- the value of a let's bound part is bound, a step, and its body is entered
-unfoldable pub binding : (limit : ℕ) (frames bound : List ℕ) → State → Coded → (body : ℕ) → Stacked
+unfoldable pub binding : (limit : ℕ) (frames bound : List ℕ) → State → CodedValue → (body : ℕ) → Stacked
 binding limit frames bound s v body =
     choose (nat_le (length bound / 2) s.lets) (λ _. stacked (stuck s) frames bound)
     (λ _. turned (step_within limit s)
@@ -42,27 +42,27 @@ binding limit frames bound s v body =
     (λ o. stacked (over o) frames bound))
 
 -- v is the value of the node's first part
-unfoldable pub after_first : (structs : List ℕ) → Terms → (ws frames bound : List ℕ) → State → Coded → Node → Stacked
+unfoldable pub after_first : (structs : List ℕ) → Terms → (ws frames bound : List ℕ) → State → CodedValue → Node → Stacked
 after_first structs T ws frames bound s v n =
     by_parts n.operation (λ _. binding T.limit frames bound s v n.second) (λ _. beside bound (second_part frames s v n.second))
     (λ _. stacked (contracted T.limit (popped s) (one_yield structs T.words ws v n.operation n.argument n.kind)) frames bound)
 
 -- it is that of the second part, or of a let's body; d is the first part's
-unfoldable pub after_second : Terms → List ℕ → State → Coded → Operation → (d : Coded) → Leaving
+unfoldable pub after_second : Terms → List ℕ → State → CodedValue → Operation → (d : CodedValue) → Leaving
 after_second T ws s v o d =
     by_parts o (λ _. leaving (goes (with_lets s (s.lets - 1))) ws) (λ a. settled T.limit s ws (act_gives T.words ws a v.value v.code d.value d.code))
     (λ _. leaving (stuck s) ws)
 
 -- the node n in the topmost frame goes on with the value v
-abbrev pub resumed_by : Option Coded → (structs : List ℕ) → Terms → (ws frames bound : List ℕ) → State → Coded → Node → (inside : Bool) → Moved
+abbrev pub resumed_by : Option CodedValue → (structs : List ℕ) → Terms → (ws frames bound : List ℕ) → State → CodedValue → Node → (inside : Bool) → Moved
 resumed_by None structs T ws frames bound s v n inside = on_stack ws (after_first structs T ws frames bound (at_height s s.height inside) v n)
 resumed_by (Some d) structs T ws frames bound s v n inside =
     on_heap frames bound (after_second T ws (at_height s (s.height - 1) inside) v n.operation d)
 
-abbrev pub resumed : (nodes structs : List ℕ) → Terms → (ws frames bound : List ℕ) → State → Coded → Frame → Moved
+abbrev pub resumed : (nodes structs : List ℕ) → Terms → (ws frames bound : List ℕ) → State → CodedValue → Frame → Moved
 resumed nodes structs T ws frames bound s v f = resumed_by f.first structs T ws frames bound s v (node_at nodes f.node) f.inside
 
-unfoldable pub handing : (nodes structs : List ℕ) → Terms → (ws frames bound : List ℕ) → State → Coded → Moved
+unfoldable pub handing : (nodes structs : List ℕ) → Terms → (ws frames bound : List ℕ) → State → CodedValue → Moved
 handing nodes structs T ws frames bound s v =
     choose (s.height == 0) (λ _. moved (done s v) ws frames bound)
     (λ _. resumed nodes structs T ws frames bound s v (frame_at frames (s.height - 1)))

@@ -10,7 +10,7 @@ use yields::{Hint, Terms};
 
 // The lent tables that hold a script, and on what terms it is run.
 #[derive(Clone, Copy)]
-pub struct Script<'a> {
+pub struct NodeScript<'a> {
     pub nodes: &'a [u64],
     pub structs: &'a [u64],
     pub types: &'a [u64],
@@ -19,7 +19,7 @@ pub struct Script<'a> {
 
 // A value as a number with the code of its kind.
 #[derive(Clone, Copy)]
-pub struct Coded {
+pub struct CodedValue {
     pub value: u64,
     pub code: u64,
 }
@@ -28,7 +28,7 @@ pub struct Coded {
 #[derive(Clone, Copy)]
 pub enum Focus {
     Node(u64),
-    Value(Coded),
+    Value(CodedValue),
 }
 
 // Where the machine stands: what is in focus, how many frames and bound values there are, whether the focus lies inside an unchecked
@@ -59,7 +59,7 @@ pub struct Node {
 pub struct Frame {
     pub node: u64,
     pub inside: bool,
-    pub first: Option<Coded>,
+    pub first: Option<CodedValue>,
 }
 
 // What a transition comes to: the machine goes on, or the run ends.

@@ -3,7 +3,7 @@ ghost use Rattle.std.specs.Prelude.{◌≡◌};
 ghost use Rattle.machine.specs.Malloc.{room_taken, room_at};
 ghost use Rattle.machine.specs.States.{leaving};
 
-use crate::{Script, State, Turn};
+use crate::{NodeScript, State, Turn};
 use calculus::Halt;
 use cells::lowest_run;
 use std::ops::ControlFlow;
@@ -12,7 +12,7 @@ use yields::{Hint, start, zero};
 
 // Room for the target of a checked pointer: the lowest run of words that is long enough.
 #[tactic(auto, unfolding(crate::specs::Malloc::room_for))]
-pub fn malloc(heap: &mut [u64], script: &Script, s: State, code: u64) -> Turn
+pub fn malloc(heap: &mut [u64], script: &NodeScript, s: State, code: u64) -> Turn
     ensures { leaving result heap.new ≡ room_at script.now.structs.now script.now.types.now script.now.terms heap.old s code }
 {
     let terms = script.terms;
@@ -28,7 +28,14 @@ pub fn malloc(heap: &mut [u64], script: &Script, s: State, code: u64) -> Turn
 
 // The run found is taken, a step later: no run of that size starts lower from now on.
 #[tactic(auto, unfolding(crate::specs::Malloc::room_taken))]
-fn take(heap: &mut [u64], script: &Script, s: State, code: u64, size: usize, address: usize) -> Turn
+fn take(
+    heap: &mut [u64],
+    script: &NodeScript,
+    s: State,
+    code: u64,
+    size: usize,
+    address: usize,
+) -> Turn
     ensures { leaving result heap.new
         ≡ room_taken script.now.structs.now script.now.types.now script.now.terms.limit heap.old s code size address }
 {

@@ -5,7 +5,7 @@ ghost use Rattle.machine.specs.States.{leaving, moved};
 
 use crate::malloc::malloc;
 use crate::rows::{node_at, put_frame};
-use crate::{Focus, Script, State, Turn};
+use crate::{Focus, NodeScript, State, Turn};
 use calculus::Operation;
 use cells::{code_at, value_at};
 use std::ops::ControlFlow;
@@ -15,7 +15,7 @@ pub fn enter(
     heap: &mut [u64],
     frames: &mut [u64],
     bound: &[u64],
-    script: &Script,
+    script: &NodeScript,
     s: State,
     at: u64,
 ) -> Turn

@@ -3,7 +3,7 @@
 ghost use Rattle.std.specs.Prelude.{◌≡◌, ◌<◌};
 ghost use Rattle.machine.specs.Rows.{in_row, node_at, frame_at, framed, kept};
 
-use crate::{Coded, Frame, Node};
+use crate::{CodedValue, Frame, Node};
 use calculus::Operation;
 
 // Number j of row i, 0 where there is no such row.
@@ -43,7 +43,7 @@ pub fn frame_at(frames: &[u64], i: usize) -> Frame
     Frame {
         node: row(frames, i, 0),
         inside: row(frames, i, 1) != 0,
-        first: (code != 0).then_some(Coded { value, code }),
+        first: (code != 0).then_some(CodedValue { value, code }),
     }
 }
 
@@ -62,7 +62,7 @@ pub fn put_frame(frames: &mut [u64], i: usize, node: u64, inside: bool)
 
 // Frame i keeps the value of its node's first part from now on.
 #[tactic(auto, unfolding(crate::specs::Rows::kept))]
-pub fn keep(frames: &mut [u64], i: usize, v: Coded)
+pub fn keep(frames: &mut [u64], i: usize, v: CodedValue)
     ensures { frames.new ≡ kept frames.old i v }
 {
     if i < frames.len() / 4 {

@@ -3,7 +3,7 @@ ghost use Rattle.std.specs.Prelude.{◌≡◌};
 ghost use Rattle.calculus.specs.Run.{outcome_of};
 ghost use Rattle.machine.specs.States as states;
 
-use crate::{Coded, Focus, State, Turn};
+use crate::{CodedValue, Focus, State, Turn};
 use calculus::{End, Halt, Outcome};
 use cells::Cell;
 use std::ops::ControlFlow;
@@ -15,7 +15,7 @@ impl State {
         ensures { result ≡ states.with_value self value code }
     {
         State {
-            focus: Focus::Value(Coded { value, code }),
+            focus: Focus::Value(CodedValue { value, code }),
             ..self
         }
     }
@@ -65,7 +65,7 @@ impl State {
     }
 
     // The whole expression is this value.
-    pub fn done(self, v: Coded) -> Turn
+    pub fn done(self, v: CodedValue) -> Turn
         ensures { result ≡ states.done self v }
     {
         ControlFlow::Break(self.outcome(End::Value(v.into())))
@@ -103,10 +103,10 @@ impl State {
 }
 
 // The cell of a value with the code of its kind.
-impl From<Coded> for Cell {
+impl From<CodedValue> for Cell {
     ghost from_gives = { λ v c. c ≡ states.cell_of v };
 
-    fn from(v: Coded) -> Cell {
+    fn from(v: CodedValue) -> Cell {
         Cell {
             value: v.value,
             kind: v.code.into(),

@@ -6,7 +6,7 @@ ghost use Rattle.machine.specs.Entry.{Stepped};
 
 use crate::nodes::enter;
 use crate::values::resume;
-use crate::{Focus, Script, State, Turn};
+use crate::{Focus, NodeScript, State, Turn};
 use calculus::{End, Outcome};
 use std::ops::ControlFlow;
 use yields::{Hint, Terms};
@@ -23,7 +23,7 @@ pub fn run(
 ) -> Outcome
     ensures { Stepped nodes.now structs.now types.now terms heap.old frames.old bound.old result heap.new frames.new bound.new }
 {
-    let script = Script {
+    let script = NodeScript {
         nodes,
         structs,
         types,
@@ -53,7 +53,13 @@ pub fn run(
 
 // One transition: a node is in focus, or a value.
 #[tactic(auto, unfolding(crate::specs::Turns::transition))]
-fn turn(heap: &mut [u64], frames: &mut [u64], bound: &mut [u64], script: &Script, s: State) -> Turn
+fn turn(
+    heap: &mut [u64],
+    frames: &mut [u64],
+    bound: &mut [u64],
+    script: &NodeScript,
+    s: State,
+) -> Turn
     ensures { moved result heap.new frames.new bound.new
         ≡ transition script.now.nodes.now script.now.structs.now script.now.types.now script.now.terms heap.old frames.old bound.old s }
 {

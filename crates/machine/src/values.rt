@@ -5,7 +5,7 @@ ghost use Rattle.machine.specs.States.{leaving, moved, stacked};
 
 use crate::redexes::{act, one};
 use crate::rows::{frame_at, keep, node_at};
-use crate::{Coded, Focus, Node, Script, State, Turn};
+use crate::{CodedValue, Focus, Node, NodeScript, State, Turn};
 use calculus::Operation;
 use cells::put_word;
 use std::ops::ControlFlow;
@@ -16,9 +16,9 @@ pub fn resume(
     heap: &mut [u64],
     frames: &mut [u64],
     bound: &mut [u64],
-    script: &Script,
+    script: &NodeScript,
     s: State,
-    v: Coded,
+    v: CodedValue,
 ) -> Turn
     ensures { moved result heap.new frames.new bound.new
         ≡ handing script.now.nodes.now script.now.structs.now script.now.terms heap.old frames.old bound.old s v }
@@ -52,9 +52,9 @@ fn after_first(
     frames: &mut [u64],
     bound: &mut [u64],
     heap: &[u64],
-    script: &Script,
+    script: &NodeScript,
     s: State,
-    v: Coded,
+    v: CodedValue,
     node: Node,
 ) -> Turn
     ensures { stacked result frames.new bound.new
@@ -81,9 +81,9 @@ fn after_second(
     heap: &mut [u64],
     terms: Terms,
     s: State,
-    v: Coded,
+    v: CodedValue,
     operation: Operation,
-    first: Coded,
+    first: CodedValue,
 ) -> Turn
     ensures { leaving result heap.new ≡ after_second terms heap.old s v operation first }
 {
@@ -99,7 +99,14 @@ fn after_second(
 
 // The value of a let's bound part is bound, and its body is entered.
 #[tactic(auto, unfolding(crate::specs::Values::binding))]
-fn bind(frames: &mut [u64], bound: &mut [u64], limit: u64, s: State, v: Coded, body: u64) -> Turn
+fn bind(
+    frames: &mut [u64],
+    bound: &mut [u64],
+    limit: u64,
+    s: State,
+    v: CodedValue,
+    body: u64,
+) -> Turn
     ensures { stacked result frames.new bound.new ≡ binding limit frames.old bound.old s v body }
 {
     let lets = s.lets;
@@ -117,7 +124,7 @@ fn bind(frames: &mut [u64], bound: &mut [u64], limit: u64, s: State, v: Coded, b
 
 // The value of a node's first part is kept in its frame, and its second part is entered.
 #[tactic(auto, unfolding(crate::specs::Values::second_part))]
-fn second_part(frames: &mut [u64], s: State, v: Coded, part: u64) -> Turn
+fn second_part(frames: &mut [u64], s: State, v: CodedValue, part: u64) -> Turn
     ensures { leaving result frames.new ≡ second_part frames.old s v part }
 {
     keep(frames, s.height.saturating_sub(1), v);

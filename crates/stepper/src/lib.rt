@@ -8,7 +8,7 @@ use yields::{Hint, Terms};
 
 // A script in lent numbers: the rows of its expression, its structs and its word types; and on what terms it is run.
 #[derive(Clone, Copy)]
-pub struct Script<'a> {
+pub struct RowScript<'a> {
     pub rows: &'a [u64],
     pub structs: &'a [u64],
     pub types: &'a [u64],

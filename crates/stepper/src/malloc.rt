@@ -3,7 +3,7 @@ ghost use Rattle.std.specs.Prelude.{◌≡◌};
 ghost use Rattle.stepper.specs.Malloc.{room_takes, room_gives};
 ghost use Rattle.stepper.specs.States.{changed};
 
-use crate::{Script, StepState, StepTurn};
+use crate::{RowScript, StepState, StepTurn};
 use calculus::Halt;
 use cells::lowest_run;
 use tables::size_of;
@@ -11,7 +11,7 @@ use yields::{start, zero};
 
 // Room for the target of a checked pointer: the lowest run of words that is long enough. The pointer's place on the stack is counted.
 #[tactic(auto, unfolding(crate::specs::Malloc::room_sized))]
-pub fn malloc(heap: &mut [u64], script: &Script, s: StepState, code: u64) -> StepTurn
+pub fn malloc(heap: &mut [u64], script: &RowScript, s: StepState, code: u64) -> StepTurn
     ensures { changed result heap.new ≡ room_gives script.now.structs.now script.now.types.now script.now.terms heap.old s code }
 {
     let size = size_of(script.structs, code);
@@ -29,7 +29,7 @@ pub fn malloc(heap: &mut [u64], script: &Script, s: StepState, code: u64) -> Ste
 #[tactic(auto, unfolding(crate::specs::Malloc::room_takes))]
 fn take(
     heap: &mut [u64],
-    script: &Script,
+    script: &RowScript,
     s: StepState,
     code: u64,
     size: usize,

@@ -4,7 +4,7 @@ ghost use Rattle.yields.specs.Yields.{store_gives, assign_gives, act_gives};
 ghost use Rattle.stepper.specs.Nodes.{one_gives};
 ghost use Rattle.stepper.specs.States.{changed, settled_on};
 
-use crate::{Script, StepState, StepTurn};
+use crate::{RowScript, StepState, StepTurn};
 use calculus::Act;
 use cells::{Cell, store};
 use tables::{Task, type_code};
@@ -14,7 +14,7 @@ use yields::{Terms, Yield, field_address, read, sum};
 #[tactic(auto, unfolding(crate::specs::Nodes::one_gives))]
 pub fn one(
     heap: &[u64],
-    script: &Script,
+    script: &RowScript,
     s: StepState,
     task: Task,
     slot: usize,

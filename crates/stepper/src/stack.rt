@@ -5,7 +5,7 @@ ghost use Rattle.stepper.specs.States.{changed, placed_on};
 
 use crate::malloc::malloc;
 use crate::nodes::{act, one};
-use crate::{Script, StepState, StepTurn};
+use crate::{RowScript, StepState, StepTurn};
 use calculus::Act;
 use cells::{code_at, put_word, value_at};
 use tables::Task;
@@ -44,7 +44,7 @@ pub fn fetch(stack: &mut [u64], bound: &[u64], s: StepState, out: usize) -> Step
 pub fn allot(
     heap: &mut [u64],
     stack: &mut [u64],
-    script: &Script,
+    script: &RowScript,
     s: StepState,
     code: u64,
 ) -> StepTurn
@@ -63,7 +63,7 @@ pub fn allot(
 #[tactic(auto, unfolding(crate::specs::Stack::applied))]
 pub fn apply(
     heap: &[u64],
-    script: &Script,
+    script: &RowScript,
     s: StepState,
     task: Task,
     slot: usize,

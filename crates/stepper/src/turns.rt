@@ -6,14 +6,14 @@ ghost use Rattle.stepper.specs.Entry.{StepRan};
 ghost use Rattle.stepper.specs.States.{turned_to};
 
 use crate::stack::{allot, apply, bind, fetch, join, push, stop, unbind};
-use crate::{Script, StepState, StepTurn};
+use crate::{RowScript, StepState, StepTurn};
 use calculus::{End, Outcome};
 use std::ops::ControlFlow;
 use tables::{Task, datum_at, head_at, is_inside, slot_of, task_of, type_code};
 use yields::{Hint, Terms};
 
 // Runs the script over the heap, on its terms.
-pub fn run(heap: &mut [u64], stack: &mut [u64], bound: &mut [u64], script: &Script) -> Outcome
+pub fn run(heap: &mut [u64], stack: &mut [u64], bound: &mut [u64], script: &RowScript) -> Outcome
     ensures { StepRan script.now.rows.now script.now.structs.now script.now.types.now script.now.terms heap.old stack.old bound.old
         result heap.new stack.new bound.new }
 {
@@ -53,7 +53,7 @@ pub fn advance(
     heap: &mut [u64],
     stack: &mut [u64],
     bound: &mut [u64],
-    script: &Script,
+    script: &RowScript,
     s: StepState,
 ) -> ControlFlow<Outcome, StepState>
     ensures { advanced_to result heap.new stack.new bound.new
@@ -78,7 +78,7 @@ fn turn(
     heap: &mut [u64],
     stack: &mut [u64],
     bound: &mut [u64],
-    script: &Script,
+    script: &RowScript,
     from: StepState,
 ) -> StepTurn
     ensures { turned_to result heap.new stack.new bound.new
