@@ -2,14 +2,14 @@
 // One byte more than an image may have is read, so that a longer input is told by its length.
 #![tactic(auto)]
 
+use input::read_full;
 use std::io;
-use std::io::Read;
 
 fn main(rt: HostRuntime) -> io::Result<()> {
-    let mut image = Vec::new(rt.alloc());
-    rt.stdin().take(16385).read_to_end(&mut image)?;
+    let mut image = [0u8; 16385];
+    let read = read_full(&mut rt.stdin(), &mut image)?;
     let mut heap = [0u64; 2048];
-    let answer = codlinbell::answer_to(&image, &mut heap);
+    let answer = codlinbell::answer_to(&image[..read], &mut heap);
     let mut line = [0u8; 128];
     let length = answers::write_line(&mut line, answer);
     rt.write_all(&line[..length])
