@@ -1,9 +1,16 @@
-// Document 01's number and values for each end.
+// Document 01's number for each fault, and its number and values for each end.
 ghost use Rattle.std.specs.Prelude.{◌≡◌};
-ghost use Rattle.calculus.specs.Answers.{end_number, end_value, end_kind};
+ghost use Rattle.calculus.specs.Answers.{fault_number, end_number, end_value, end_kind};
 
-use calculus::End;
+use calculus::{End, Fault};
 use cells::Kind;
+
+// The number of a fault, 1 to 10.
+pub fn fault_number(fault: Fault) -> u64
+    ensures { result ≡ fault_number fault }
+{
+    fault.into()
+}
 
 // The number of an end: 0 value, a halt's number, 4 stuck, 5 more.
 pub fn end_number(end: End) -> u64

@@ -11,7 +11,7 @@ mod line;
 mod out;
 mod readings;
 
-pub use ends::{end_kind, end_number, end_value};
+pub use ends::{end_kind, end_number, end_value, fault_number};
 pub use line::write_line;
 pub use out::write_numbers;
 pub use readings::reading_of;
