@@ -7,3 +7,4 @@ pub mod Ready
 pub mod Transitions
 pub mod Simulation
 pub mod Beyond
+pub mod Slow

@@ -30,7 +30,7 @@ use Rattle.yields.specs.declared.Hint.{Hint}
 use Rattle.yields.specs.declared.Terms.{Terms}
 use Rattle.yields.specs.declared.Yield.{Yield}
 use Rattle.yields.specs.declared.Yield.TheVariants.{Gives}
-use Rattle.yields.specs.Malloc.{one_more, room_hint}
+use Rattle.yields.specs.Malloc.{room_hint}
 use Rattle.yields.specs.Yields.{given_on, act_gives}
 use Rattle.yields.proofs.GivesAs.{HeapNext, GivesAs, as_blocked, as_halts, as_gives, OnTerms, act_as}
 use Rattle.yields.proofs.Zeroed.{HintHolds, hint_after, found_as, taken_as, hint_as}
@@ -82,7 +82,7 @@ module _ {S : Setting} {T : Terms} {ws structs types : List ℕ} (L : OnTerms S 
         → step S Checked H e ≡ halt h m → Goes H frames bound steps first ht r e left
     is_step : {f : Focus} {h lets : ℕ} {x : Bool} {left' : ℕ} {m : Mode} {H' : Heap} {e' : Expr} {frames' bound' : List ℕ} {ht' : Hint}
         → (T.limit ≤ steps → r ≡ moved (states.over (outcome_of ends.More steps first)) (lent H ws) frames bound)
-        → (steps < T.limit → r ≡ moved (states.goes (state f h lets x (one_more steps) (first_of steps first (mode_inside m)) ht')) (lent H' ws) frames' bound')
+        → (steps < T.limit → r ≡ moved (states.goes (state f h lets x (steps + 1) (first_of steps first (mode_inside m)) ht')) (lent H' ws) frames' bound')
         → step S Checked H e ≡ next H' e' m → SmallHeap H' → length H' ≡ length H → HintHolds H' T.low ht'
         → length frames' ≡ length frames → length bound' ≡ length bound → SimNodes table R f h lets x frames' bound' e' left' → left' < left
         → Goes H frames bound steps first ht r e left
@@ -212,7 +212,7 @@ module _ {S : Setting} {T : Terms} {ws structs types : List ℕ} (L : OnTerms S 
 
       after_bound : (j : ℕ) → lets < length bound / 2 → steps < T.limit
           → resumed_by None structs T (lent H ws) frames bound (state (focus.Value v) (suc h) lets x steps first ht) v (node op.Let 0 0 j) m
-          ≡ moved (states.goes (state (focus.Node j) (suc h) (suc lets) m (one_more steps) (first_of steps first m) ht)) (lent H ws) (kept frames h v)
+          ≡ moved (states.goes (state (focus.Node j) (suc h) (suc lets) m (steps + 1) (first_of steps first m) ht)) (lent H ws) (kept frames h v)
           (put_word bound (suc lets) v.value v.code)
       unfolding after_first binding second_part
       after_bound j l f = rw (lt-leb (length bound / 2) lets l, lt-leb T.limit steps f, less h, add-one lets)

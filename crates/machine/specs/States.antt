@@ -1,5 +1,5 @@
 -- The state after a transition, how a run ends, and what a transition leaves of the lent tables.
-use Rattle.std.specs.Prelude.{ℕ, ◌-◌, Bool, List, ◌==◌, nat_le}
+use Rattle.std.specs.Prelude.{ℕ, ◌+◌, ◌-◌, Bool, List, ◌==◌, nat_le}
 use Rattle.std.specs.declared.ops.ControlFlow.{ControlFlow}
 use Rattle.std.specs.declared.ops.ControlFlow.TheVariants.{Continue, Break}
 use Rattle.choice.specs.Choice.{choose, both}
@@ -14,7 +14,7 @@ use Rattle.yields.specs.declared.Hint.{Hint}
 use Rattle.yields.specs.declared.Yield.{Yield}
 use Rattle.yields.specs.declared.Yield.TheVariants.{Gives, Halts, Blocked}
 use Rattle.yields.specs.Yields.{Given}
-use Rattle.yields.specs.Malloc.{one_more, room_hint}
+use Rattle.yields.specs.Malloc.{room_hint}
 use Rattle.machine.specs.declared.CodedValue.{CodedValue}
 use Rattle.machine.specs.declared.Focus.{Focus}
 use Rattle.machine.specs.declared.Focus.TheVariants as focus
@@ -68,16 +68,19 @@ with_lets s lets = record s { lets = lets }
 abbrev pub with_hint : State → (size from : ℕ) → State
 with_hint s size from = record s { hint = room_hint size from }
 
--- the number of the first unchecked step, where the next one is counted too
+-- the number of the first unchecked step, where the next one, which has that number, is counted too
+abbrev pub first_by : (next first : ℕ) → (inside : Bool) → ℕ
+first_by next first inside = choose (both (first == 0) inside) (λ _. next) (λ _. first)
+
 abbrev pub first_of : (steps first : ℕ) → (inside : Bool) → ℕ
-first_of steps first inside = choose (both (first == 0) inside) (λ _. one_more steps) (λ _. first)
+first_of steps first inside = first_by (steps + 1) first inside
 
 abbrev pub first_in : State → ℕ
 first_in s = first_of s.steps s.first s.inside
 
 -- one step more
 abbrev pub stepped : State → State
-stepped s = record s { steps = one_more s.steps; first = first_in s }
+stepped s = record s { steps = s.steps + 1; first = first_in s }
 
 -- ---- how a run ends: the limit forbids the next step
 abbrev pub more : State → Turn
@@ -92,7 +95,7 @@ abbrev pub stuck : State → Turn
 stuck s = over (outcome_of ends.Stuck s.steps (first_in s))
 
 abbrev pub halt : (limit : ℕ) → State → Halt → Turn
-halt limit s h = choose (nat_le limit s.steps) (λ _. more s) (λ _. over (outcome_of (ends.Halted h) (one_more s.steps) (first_in s)))
+halt limit s h = choose (nat_le limit s.steps) (λ _. more s) (λ _. over (outcome_of (ends.Halted h) (s.steps + 1) (first_in s)))
 
 -- ---- a step
 abbrev pub step_within : (limit : ℕ) → State → Turn

@@ -1,5 +1,5 @@
 // malloc: whether there is room, and its step.
-ghost use Rattle.std.specs.Prelude.{◌≡◌};
+ghost use Rattle.std.specs.Prelude.{◌≡◌, ◌^◌, ◌<◌};
 ghost use Rattle.machine.specs.Malloc.{room_taken, room_at};
 ghost use Rattle.machine.specs.States.{leaving};
 
@@ -13,6 +13,7 @@ use yields::{Hint, start, zero};
 // Room for the target of a checked pointer: the lowest run of words that is long enough.
 #[tactic(auto, unfolding(crate::specs::Malloc::room_for))]
 pub fn malloc(heap: &mut [u64], script: &NodeScript, s: State, code: u64) -> Turn
+    requires { s.steps < 2 ^ 63 }
     ensures { leaving result heap.new ≡ room_at script.now.structs.now script.now.types.now script.now.terms heap.old s code }
 {
     let terms = script.terms;

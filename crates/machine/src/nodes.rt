@@ -19,6 +19,7 @@ pub fn enter(
     s: State,
     at: u64,
 ) -> Turn
+    requires { s.steps < 2 ^ 63 }
     ensures { moved result heap.new frames.new bound.now
         ≡ entering script.now.nodes.now script.now.structs.now script.now.types.now script.now.terms heap.old frames.old bound.now s at }
 {
@@ -34,6 +35,7 @@ pub fn enter(
 // The value of a variable, by how many lets out it is: bound values stand in the list as words in a heap, the outermost at address 1.
 #[tactic(auto, unfolding(crate::specs::Nodes::variable_at))]
 fn variable(bound: &[u64], s: State, out: usize) -> Turn
+    requires { s.steps < 2 ^ 63 }
     ensures { result ≡ variable_at bound.now s out }
 {
     let lets = s.lets;
@@ -48,7 +50,7 @@ fn variable(bound: &[u64], s: State, out: usize) -> Turn
 // The node waits in a frame for its first part, which is the next node.
 #[tactic(auto, using(crate::proofs::Arms::not_block), unfolding(crate::specs::Nodes::first_part))]
 fn first_part(frames: &mut [u64], s: State, at: u64, operation: Operation) -> Turn
-    requires { at < 2 ^ 63 }
+    requires { (s.steps < 2 ^ 63) × (at < 2 ^ 63) }
     ensures { leaving result frames.new ≡ first_part frames.old s at operation }
 {
     let height = s.height;

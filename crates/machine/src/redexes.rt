@@ -1,5 +1,5 @@
 // What a node gives once its parts are values, and the step of an act on two values, by "Steps".
-ghost use Rattle.std.specs.Prelude.{◌≡◌};
+ghost use Rattle.std.specs.Prelude.{◌≡◌, ◌^◌, ◌<◌};
 ghost use Rattle.yields.specs.Yields.{act_gives, assign_gives, store_gives};
 ghost use Rattle.machine.specs.Redexes.{one_yield};
 ghost use Rattle.machine.specs.States.{leaving, settled};
@@ -40,6 +40,7 @@ pub fn act(
     o: Act,
     first: CodedValue,
 ) -> Turn
+    requires { s.steps < 2 ^ 63 }
     ensures { leaving result heap.new
         ≡ settled terms.limit s heap.old (act_gives terms.words heap.old o v.value v.code first.value first.code) }
 {
@@ -52,6 +53,7 @@ pub fn act(
 // Assign the value v at a pointer: where a read gives a value.
 #[tactic(auto, using(crate::proofs::Memory::settled_same), unfolding(yields::specs::Yields::assign_gives))]
 fn assign(heap: &mut [u64], terms: Terms, s: State, v: CodedValue, to: CodedValue) -> Turn
+    requires { s.steps < 2 ^ 63 }
     ensures { leaving result heap.new
         ≡ settled terms.limit s heap.old (assign_gives terms.words heap.old v.value v.code to.value to.code) }
 {

@@ -1,5 +1,5 @@
 // The state after a transition, and how a run ends.
-ghost use Rattle.std.specs.Prelude.{◌≡◌};
+ghost use Rattle.std.specs.Prelude.{◌≡◌, ◌^◌, ◌<◌};
 ghost use Rattle.calculus.specs.Run.{outcome_of};
 ghost use Rattle.machine.specs.States as states;
 
@@ -9,6 +9,7 @@ use cells::Cell;
 use std::ops::ControlFlow;
 use yields::Yield;
 
+// `steps < 2 ^ 63` is no field of the type: a step would have to keep the bound, and only the run, which counts its turns, knows it.
 impl State {
     // A value is in focus.
     pub fn with_value(self, value: u64, code: u64) -> State
@@ -20,23 +21,12 @@ impl State {
         }
     }
 
-    // One step more. Below the limit this does not wrap.
-    fn stepped(self) -> State
-        ensures { result ≡ states.stepped self }
-    {
-        State {
-            steps: self.steps.wrapping_add(1),
-            first: self.first_unchecked(),
-            ..self
-        }
-    }
-
-    // The number of the first unchecked step, where the next one is counted too.
-    fn first_unchecked(self) -> u64
-        ensures { result ≡ states.first_in self }
+    // The number of the first unchecked step, where the next one, which has that number, is counted too.
+    fn first_unchecked(self, next: u64) -> u64
+        ensures { result ≡ states.first_by next self.first self.inside }
     {
         if self.first == 0 && self.inside {
-            self.steps.wrapping_add(1)
+            next
         } else {
             self.first
         }
@@ -47,14 +37,19 @@ impl State {
         ensures { result ≡ states.step_within limit self }
     {
         if limit <= self.steps {
-            ControlFlow::Break(self.outcome(End::More))
-        } else {
-            ControlFlow::Continue(self.stepped())
+            return ControlFlow::Break(self.outcome(End::More));
         }
+        let next = self.steps + 1;
+        ControlFlow::Continue(State {
+            steps: next,
+            first: self.first_unchecked(next),
+            ..self
+        })
     }
 
     // What a node gives is in focus, a step later.
     pub fn contracted(self, limit: u64, given: Yield) -> Turn
+        requires { self.steps < 2 ^ 63 }
         ensures { result ≡ states.contracted limit self given }
     {
         match given {
@@ -73,10 +68,11 @@ impl State {
 
     // "Being Stuck is not" a step, and is told at the limit.
     pub fn stuck(self) -> Turn
+        requires { self.steps < 2 ^ 63 }
         ensures { result ≡ states.stuck self }
     {
         let told = State {
-            first: self.first_unchecked(),
+            first: self.first_unchecked(self.steps + 1),
             ..self
         };
         ControlFlow::Break(told.outcome(End::Stuck))

@@ -1,5 +1,5 @@
 // The run: transitions are made until one ends it.
-ghost use Rattle.std.specs.Prelude.{◌≡◌};
+ghost use Rattle.std.specs.Prelude.{◌≡◌, ◌^◌, ◌<◌};
 ghost use Rattle.machine.specs.Turns.{transition};
 ghost use Rattle.machine.specs.States.{moved};
 ghost use Rattle.machine.specs.Entry.{Stepped};
@@ -60,6 +60,7 @@ fn turn(
     script: &NodeScript,
     s: State,
 ) -> Turn
+    requires { s.steps < 2 ^ 63 }
     ensures { moved result heap.new frames.new bound.new
         ≡ transition script.now.nodes.now script.now.structs.now script.now.types.now script.now.terms heap.old frames.old bound.old s }
 {

@@ -1,5 +1,5 @@
 // A value is in focus: it is the whole expression's, or it is handed back to the node in the topmost frame.
-ghost use Rattle.std.specs.Prelude.{◌≡◌};
+ghost use Rattle.std.specs.Prelude.{◌≡◌, ◌^◌, ◌<◌};
 ghost use Rattle.machine.specs.Values.{handing, after_first, after_second, binding, second_part};
 ghost use Rattle.machine.specs.States.{leaving, moved, stacked};
 
@@ -20,6 +20,7 @@ pub fn resume(
     s: State,
     v: CodedValue,
 ) -> Turn
+    requires { s.steps < 2 ^ 63 }
     ensures { moved result heap.new frames.new bound.new
         ≡ handing script.now.nodes.now script.now.structs.now script.now.terms heap.old frames.old bound.old s v }
 {
@@ -57,6 +58,7 @@ fn after_first(
     v: CodedValue,
     node: Node,
 ) -> Turn
+    requires { s.steps < 2 ^ 63 }
     ensures { stacked result frames.new bound.new
         ≡ after_first script.now.structs.now script.now.terms heap.now frames.old bound.old s v node }
 {
@@ -85,6 +87,7 @@ fn after_second(
     operation: Operation,
     first: CodedValue,
 ) -> Turn
+    requires { s.steps < 2 ^ 63 }
     ensures { leaving result heap.new ≡ after_second terms heap.old s v operation first }
 {
     match operation {
@@ -107,6 +110,7 @@ fn bind(
     v: CodedValue,
     body: u64,
 ) -> Turn
+    requires { s.steps < 2 ^ 63 }
     ensures { stacked result frames.new bound.new ≡ binding limit frames.old bound.old s v body }
 {
     let lets = s.lets;
