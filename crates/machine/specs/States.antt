@@ -69,11 +69,11 @@ abbrev pub with_hint : State → (size from : ℕ) → State
 with_hint s size from = record s { hint = room_hint size from }
 
 -- the number of the first unchecked step, where the next one, which has that number, is counted too
-abbrev pub first_by : (next first : ℕ) → (inside : Bool) → ℕ
-first_by next first inside = choose (both (first == 0) inside) (λ _. next) (λ _. first)
+abbrev pub first_told : (next first : ℕ) → (inside : Bool) → ℕ
+first_told next first inside = choose (both (first == 0) inside) (λ _. next) (λ _. first)
 
 abbrev pub first_of : (steps first : ℕ) → (inside : Bool) → ℕ
-first_of steps first inside = first_by (steps + 1) first inside
+first_of steps first inside = first_told (steps + 1) first inside
 
 abbrev pub first_in : State → ℕ
 first_in s = first_of s.steps s.first s.inside

@@ -23,7 +23,7 @@ impl State {
 
     // The number of the first unchecked step, where the next one, which has that number, is counted too.
     fn first_unchecked(self, next: u64) -> u64
-        ensures { result ≡ states.first_by next self.first self.inside }
+        ensures { result ≡ states.first_told next self.first self.inside }
     {
         if self.first == 0 && self.inside {
             next
