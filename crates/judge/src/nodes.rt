@@ -12,6 +12,7 @@ use cells::Mode;
 // The type of node i, in code of this mode and inside `lets` lets; if `access`, that of the pointer that it is for an access: "An access
 // judges the two sides of a sum itself." No more than `left` nodes remain, this one included; the literals of the first `good` nodes are
 // well typed, and the next one isn't.
+#[tactic(auto, using(crate::proofs::Turns::has_row, crate::proofs::Turns::none_remain, crate::proofs::Turns::is_leaf))]
 pub fn judge_node(
     bound: &mut [u64],
     left: usize,

@@ -1,20 +1,7 @@
 -- The goals of `judge::nodes::judge_node` that the check leaves.
 use Rattle.std.proofs.lemmas.Result.{err_from_is_err_and}
-use native.Mathlib.Omega.{arith}
-use Rattle.judge.proofs.Turns.{has_row, none_remain, is_leaf, part_bad, is_one, second_bad, is_two}
+use Rattle.judge.proofs.Turns.{part_bad, is_one, second_bad, is_two}
 use Rattle.judge.proofs.nodes.+judge_node.Goals as goal
-
-pub returns-then-left-eq0 : goal.returns-then-left-eq0
-returns-then-left-eq0 t c = rw c.no_rule.ensures (none_remain _ _ _ _ _ _ _ _ _ _ c.if-left-eq0.true)
-
-pub returns-then-count-eq0 : goal.returns-then-count-eq0
-returns-then-count-eq0 t c =
-    let read = c.operation_at-operation.ensures in
-    rw (c.leaf_told.ensures, read) (is_leaf _ _ _ _ _ _ _ _ _ _ c.if-left-eq0.false (rw (c.parts-count.ensures, read) at c.if-count-eq0.true))
-
-pub overflow_add-i : goal.overflow_add-i
-overflow_add-i t c =
-    omega (arith, has_row c.args.script.now.nodes.now c.args.i (rw (c.parts-count.ensures, c.operation_at-operation.ensures) at c.if-count-eq0.false))
 
 pub returns-in_err-x : goal.returns-in_err-x
 returns-in_err-x t c =
