@@ -1,4 +1,5 @@
--- To be believed: the reading of an answer, its six numbers, and its line.
+-- To be believed: an answer, its reading, its six numbers, and its line.
+pub mod Answer
 pub mod Readings
 pub mod Out
 pub mod Line

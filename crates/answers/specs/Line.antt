@@ -1,5 +1,5 @@
 -- The line that the runner prints: "end, value, type, `steps`, count, `unchecked`, first; or `refused`, number, `at`, place".
-use Rattle.std.specs.Prelude.{ℕ, zero, suc, ◌+◌, ◌/◌, ◌%◌, List, [], ◌∷◌, ◌++◌, ltb}
+use Rattle.std.specs.Prelude.{ℕ, zero, suc, ◌+◌, ◌/◌, ◌%◌, List, [], ◌∷◌, ◌++◌, ltb, Ok, Err}
 use Prim.Native.Char.{code}
 use Prim.Native.String.{String, [] as empty, ◌∷◌ as letter}
 use Rattle.choice.specs.Choice.{choose}
@@ -12,8 +12,7 @@ use Rattle.calculus.specs.declared.End.{End}
 use Rattle.calculus.specs.declared.End.TheVariants.{Value, Halted, Stuck, More}
 use Rattle.calculus.specs.declared.Halt.{Halt}
 use Rattle.calculus.specs.declared.Halt.TheVariants.{Null, Bounds, Room}
-use Rattle.answers.specs.declared.Answer.{Answer}
-use Rattle.answers.specs.declared.Answer.TheVariants.{Refused, Ran}
+use Rattle.answers.specs.Answer.{Answer}
 
 -- the bytes of a text
 abbrev pub text : String → List ℕ
@@ -58,8 +57,8 @@ kind_word (Struct m s) = mode_letter m ++ text ".struct." ++ decimal s
 kind_word (Array m k n) = mode_letter m ++ text ".array." ++ decimal k ++ text "." ++ decimal n
 
 unfoldable pub line : Answer → List ℕ
-line (Refused r) = spaced (text "refused" ∷ decimal (fault_number r.fault) ∷ text "at" ∷ decimal r.place ∷ [])
-line (Ran o) =
+line (Err r) = spaced (text "refused" ∷ decimal (fault_number r.fault) ∷ text "at" ∷ decimal r.place ∷ [])
+line (Ok o) =
     spaced
     (end_word o.end ∷ decimal (end_value o.end) ∷ kind_word (end_kind o.end)
     ∷ text "steps" ∷ decimal o.steps ∷ text "unchecked" ∷ decimal o.first ∷ [])

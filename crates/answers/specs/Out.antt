@@ -1,15 +1,14 @@
 -- An answer as six numbers, for a host in another language: what stands at the front of the lent numbers.
-use Rattle.std.specs.Prelude.{ℕ, Bool, true, false, List, [], ◌∷◌, ◌++◌, ltb, length, drop}
+use Rattle.std.specs.Prelude.{ℕ, Bool, true, false, List, [], ◌∷◌, ◌++◌, ltb, length, drop, Ok, Err}
 use Rattle.choice.specs.Choice.{choose}
 use Rattle.cells.specs.Code.{packed}
 use Rattle.calculus.specs.Answers.{fault_number, end_number, end_value, end_kind}
-use Rattle.answers.specs.declared.Answer.{Answer}
-use Rattle.answers.specs.declared.Answer.TheVariants.{Refused, Ran}
+use Rattle.answers.specs.Answer.{Answer}
 
 -- 0, the fault's number and its place; or 1, the end's number, the value, its kind's code, the steps and the first unchecked one
 unfoldable pub out_numbers : Answer → List ℕ
-out_numbers (Refused r) = 0 ∷ fault_number r.fault ∷ r.place ∷ 0 ∷ 0 ∷ 0 ∷ []
-out_numbers (Ran o) = 1 ∷ end_number o.end ∷ end_value o.end ∷ packed (end_kind o.end) ∷ o.steps ∷ o.first ∷ []
+out_numbers (Err r) = 0 ∷ fault_number r.fault ∷ r.place ∷ 0 ∷ 0 ∷ 0 ∷ []
+out_numbers (Ok o) = 1 ∷ end_number o.end ∷ end_value o.end ∷ packed (end_kind o.end) ∷ o.steps ∷ o.first ∷ []
 
 -- whether numbers were written, and the lent numbers afterwards
 pub record Numbered : Type 0 where

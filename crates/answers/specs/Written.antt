@@ -1,8 +1,8 @@
--- Bytes written into lent ones from an offset on: past the end nothing is written, and the offset behind them counts every byte.
-use Rattle.std.specs.Prelude.{ℕ, ◌+◌, ◌≡◌, List, length}
+-- A line's bytes written into lent ones: past their end nothing is written, and the offset behind them counts every byte.
+use Rattle.std.specs.Prelude.{ℕ, ◌+◌, List, length}
 use Rattle.std.proofs.lemmas.List.Edits.{sets}
+use Rattle.answers.specs.declared.line.Line.{Line}
 
--- after `bytes` were written to `before` at `at`: the offset behind them and the lent bytes afterwards
-pub record Written (before : List ℕ) (at : ℕ) (bytes : List ℕ) (next : ℕ) (after : List ℕ) : Type 0 where
-  pub behind : next ≡ at + length bytes
-  pub stored : after ≡ sets before at bytes
+-- the line after `bytes` more
+unfoldable pub wrote : Line → List ℕ → Line
+wrote l bytes = record { out = record l.out { now = sets l.out.now l.at bytes }; at = l.at + length bytes }

@@ -3,27 +3,15 @@
 
 use calculus::{Outcome, Refusal};
 
-// What an image is answered with: it is refused, or it was run.
-#[derive(Clone, Copy)]
-pub enum Answer {
-    Refused(Refusal),
-    Ran(Outcome),
-}
-
-// The reading that an answer gives: a number, or the plain statement that there is none.
-#[derive(Clone, Copy)]
-pub enum Reading {
-    Number(u64),
-    Nothing,
-}
+// What an image is answered with: it was run, or it is refused.
+pub type Answer = Result<Outcome, Refusal>;
 
 mod ends;
 mod line;
 mod out;
 mod readings;
-mod widths;
 
-pub use ends::{end_kind, end_number, end_value, fault_number};
+pub use ends::{end_kind, end_number, end_value};
 pub use line::write_line;
 pub use out::write_numbers;
 pub use readings::reading_of;

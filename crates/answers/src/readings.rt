@@ -1,30 +1,16 @@
 // The reading of an answer: "a Value gives its number as the reading. Every other end gives none."
 ghost use Rattle.std.specs.Prelude.{◌≡◌};
-ghost use Rattle.answers.specs.Readings.{end_reading, reading_of};
+ghost use Rattle.answers.specs.Readings.{reading_of};
 
-use crate::{Answer, Reading};
+use crate::Answer;
 use calculus::End;
 
 // The reading that an answer gives.
-pub fn reading_of(answer: Answer) -> Reading
+pub fn reading_of(answer: Answer) -> Option<u64>
     ensures { result ≡ reading_of answer }
 {
-    match answer {
-        Answer::Refused(_) => Reading::Nothing,
-        Answer::Ran(outcome) => {
-            let end = outcome.end;
-            end_reading(end)
-        }
-    }
-}
-
-fn end_reading(end: End) -> Reading
-    ensures { result ≡ end_reading end }
-{
-    match end {
-        End::Value(cell) => Reading::Number(cell.value),
-        End::Halted(_) => Reading::Nothing,
-        End::Stuck => Reading::Nothing,
-        End::More => Reading::Nothing,
+    match answer.ok()?.end {
+        End::Value(cell) => Some(cell.value),
+        _ => None,
     }
 }

@@ -1,4 +1,5 @@
 -- How the contracts of loading, judging, placing and running join: each law is what one function of the library needs, over plain lists.
+use Rattle.std.specs.Prelude.{Result, Ok, Err}
 use Prim.Native.Nat.{ℕ, ◌*◌, ◌/◌, ◌≤◌, min}
 use mathlib.Core.Path.{◌≡◌, refl, sym, ap, subst, ◌∙◌}
 use mathlib.Core.List.{List}
@@ -16,18 +17,13 @@ use Rattle.image.specs.Image.{read_image}
 use Rattle.image.specs.Tabled.{Held}
 use Rattle.image.specs.Loaded as loaded
 use Rattle.image.specs.declared.Sizes.{Sizes}
-use Rattle.image.specs.declared.Loading.{Loading}
-use Rattle.image.specs.declared.Loading.TheVariants as loading
 use Rattle.image.proofs.Gives.{given_by}
 use Rattle.image.proofs.LoadLaws.{ContentRead, content_gives, load_result, load_held, held_all}
 use Rattle.judge.specs.Script.{ScriptJudged, as_verdict}
-use Rattle.judge.specs.declared.Judged.{Judged}
-use Rattle.judge.specs.declared.Judged.TheVariants as verdict
 use Rattle.machine.specs.Entry.{Stepped}
 use Rattle.codlinbell.specs.Answered.{Answered, answering, answered, ran, judged_then, read_then, content_verdict, content_run, announced, announced_of}
 use Rattle.codlinbell.specs.Placing.{cells_stored}
 use Rattle.codlinbell.specs.Prepared.{whole_heap, LongTables, Prepared}
-use Rattle.answers.specs.declared.Answer.TheVariants.{Refused, Ran}
 use Rattle.codlinbell.proofs.Heaps.{cells_made}
 use Rattle.codlinbell.proofs.Prepared.{rising, readied, ready}
 
@@ -37,7 +33,7 @@ module _ {image ws : List ℕ} {words : ℕ} {c : Content} {structs types cells 
   content_read = given_by (content_gives words image) p.reads
 
   -- The judge's answer is the definition's verdict.
-  pub verdict_told : {j : Judged} {marks' queue' bound' : List ℕ} → ScriptJudged structs types cells table marks queue bound j marks' queue' bound'
+  pub verdict_told : {j : Result Kind Refusal} {marks' queue' bound' : List ℕ} → ScriptJudged structs types cells table marks queue bound j marks' queue' bound'
       → content_verdict ws c ≡ as_verdict j
   verdict_told a =
       rw (← p.words_are)
@@ -45,7 +41,7 @@ module _ {image ws : List ℕ} {words : ℕ} {c : Content} {structs types cells 
 
   -- Clearing, placing and running is the definition's run.
   pub run_told : (limit : ℕ) {ws₁ ws₂ ws₃ frames' bound' : List ℕ} {o : Outcome} → ws₁ ≡ cleared ws words → ws₂ ≡ cells_stored cells ws₁
-      → Stepped table structs types (whole_heap words limit) ws₂ frames bound o ws₃ frames' bound' → answering (Ran o) ws₃ ≡ ran ws (content_run ws limit c)
+      → Stepped table structs types (whole_heap words limit) ws₂ frames bound o ws₃ frames' bound' → answering (Ok o) ws₃ ≡ ran ws (content_run ws limit c)
   run_told limit {ws₁} {ws₂} {ws₃} {o = o} e₁ e₂ s =
       let few : words ≤ 4096 = omega (arith, p.words_are) in
       let room : 2 * words ≤ length ws = omega (arith, p.words_are) in
@@ -70,14 +66,14 @@ module _ {image ws : List ℕ} {words : ℕ} {c : Content} {structs types cells 
       }
 
   -- An accepted content is answered by its run, another by its refusal.
-  pub accepted_told : (limit : ℕ) {j : Judged} {κ : Kind} {marks' queue' bound' : List ℕ} {a : Answered}
-      → ScriptJudged structs types cells table marks queue bound j marks' queue' bound' → j ≡ verdict.Good κ → a ≡ ran ws (content_run ws limit c)
+  pub accepted_told : (limit : ℕ) {j : Result Kind Refusal} {κ : Kind} {marks' queue' bound' : List ℕ} {a : Answered}
+      → ScriptJudged structs types cells table marks queue bound j marks' queue' bound' → j ≡ Ok κ → a ≡ ran ws (content_run ws limit c)
       → a ≡ judged_then ws (content_verdict ws c) (λ _. content_run ws limit c)
   accepted_told limit a e q = q ∙ sym (ap (λ (v : Verdict). judged_then ws v (λ _. content_run ws limit c)) (verdict_told a ∙ ap as_verdict e))
 
-  pub refused_told : (limit : ℕ) {j : Judged} {q : Refusal} {marks' queue' bound' : List ℕ}
-      → ScriptJudged structs types cells table marks queue bound j marks' queue' bound' → j ≡ verdict.Bad q
-      → answering (Refused q) ws ≡ judged_then ws (content_verdict ws c) (λ _. content_run ws limit c)
+  pub refused_told : (limit : ℕ) {j : Result Kind Refusal} {q : Refusal} {marks' queue' bound' : List ℕ}
+      → ScriptJudged structs types cells table marks queue bound j marks' queue' bound' → j ≡ Err q
+      → answering (Err q) ws ≡ judged_then ws (content_verdict ws c) (λ _. content_run ws limit c)
   refused_told limit a e = sym (ap (λ (v : Verdict). judged_then ws v (λ _. content_run ws limit c)) (verdict_told a ∙ ap as_verdict e))
 
 -- What loading an image without fault leaves: its content, in the fronts of the tables, each of which is long enough.
@@ -99,7 +95,7 @@ pub record LoadedAs (words : ℕ) (image : List ℕ) (n : Sizes) (structs types 
 module _ {words : ℕ} {image structs types cells table marks queue bound frames : List ℕ}
     (room : LongTables image structs types cells table marks queue bound frames) {structs' types' cells' table' : List ℕ} where
   counted_as : {c : Content} {next : ℕ} {n : Sizes} → read_image words image ≡ got c next → n ≡ loaded.sizes_of c
-      → loaded.loaded_tables (loading.Loaded n) structs' types' cells' table' ≡ loaded.load_into words image structs types cells table
+      → loaded.loaded_tables (Ok n) structs' types' cells' table' ≡ loaded.load_into words image structs types cells table
       → length structs' ≡ length structs → length types' ≡ length types → length cells' ≡ length cells → length table' ≡ length table
       → LoadedAs words image n structs' types' cells' table'
   counted_as {c} {next} {n} e q l s t k m =
@@ -130,53 +126,53 @@ module _ {words : ℕ} {image structs types cells table marks queue bound frames
       })
 
   -- An answer that is `Loaded` leaves the content.
-  pub loaded_told : {r : Loading} {n : Sizes} → loaded.loaded_tables r structs' types' cells' table' ≡ loaded.load_into words image structs types cells table
-      → r ≡ loading.Loaded n → length structs' ≡ length structs → length types' ≡ length types → length cells' ≡ length cells → length table' ≡ length table
+  pub loaded_told : {r : Result Sizes Refusal} {n : Sizes} → loaded.loaded_tables r structs' types' cells' table' ≡ loaded.load_into words image structs types cells table
+      → r ≡ Ok n → length structs' ≡ length structs → length types' ≡ length types → length cells' ≡ length cells → length table' ≡ length table
       → LoadedAs words image n structs' types' cells' table'
   loaded_told {r} {n} l e s t k m = go (read_image words image) refl
     where
-      result : (d : Parsed Content) → read_image words image ≡ d → loading.Loaded n ≡ loaded.loading d
+      result : (d : Parsed Content) → read_image words image ≡ d → Ok n ≡ loaded.loading d
       result d q =
           sym e ∙ ap (λ (F : loaded.LoadedTables). F.result) l ∙ load_result words image structs types cells table room.types_room ∙ ap loaded.loading q
 
       go : (d : Parsed Content) → read_image words image ≡ d → LoadedAs words image n structs' types' cells' table'
       go (got c next) q =
-          let same : loading.Loaded n ≡ loading.Loaded (loaded.sizes_of c) = result (got c next) q in
+          let same : Ok n ≡ Ok (loaded.sizes_of c) = result (got c next) q in
           counted_as q (cc) (rw e at l) s t k m
-      go (refused f i) q = let same : loading.Loaded n ≡ loading.Refused _ = result (refused f i) q in differ cc
+      go (refused f i) q = let same : Ok n ≡ Err _ = result (refused f i) q in differ cc
 
-  -- An answer that is `Refused` is the image's verdict.
-  pub unread_verdict : {r : Loading} {q : Refusal} (n : ℕ) → words ≡ n → loaded.loaded_tables r structs' types' cells' table' ≡ loaded.load_into words image structs types cells table
-      → r ≡ loading.Refused q → bad q.fault q.place ≡ announced n image
+  -- An answer that is a refusal is the image's verdict.
+  pub unread_verdict : {r : Result Sizes Refusal} {q : Refusal} (n : ℕ) → words ≡ n → loaded.loaded_tables r structs' types' cells' table' ≡ loaded.load_into words image structs types cells table
+      → r ≡ Err q → bad q.fault q.place ≡ announced n image
   unfolding announced
   unread_verdict {r} {q} n w l e = rw (← w) (go (read_image words image) refl)
     where
-      result : (d : Parsed Content) → read_image words image ≡ d → loading.Refused q ≡ loaded.loading d
+      result : (d : Parsed Content) → read_image words image ≡ d → Err q ≡ loaded.loading d
       result d h =
           sym e ∙ ap (λ (F : loaded.LoadedTables). F.result) l ∙ load_result words image structs types cells table room.types_room ∙ ap loaded.loading h
 
       go : (d : Parsed Content) → read_image words image ≡ d → bad q.fault q.place ≡ announced_of words (read_image words image)
-      go (got c next) h = let same : loading.Refused q ≡ loading.Loaded _ = result (got c next) h in differ cc
+      go (got c next) h = let same : Err q ≡ Ok _ = result (got c next) h in differ cc
       go (refused f i) h =
-          let same : loading.Refused q ≡ loading.Refused (record { fault = f; place = i }) = result (refused f i) h in
+          let same : Err q ≡ Err (record { fault = f; place = i }) = result (refused f i) h in
           let p : q ≡ record { fault = f; place = i } = cc in
           rw (h, p)
 
-  -- An answer that is `Refused` is the image's answer.
-  pub unread_told : {r : Loading} {q : Refusal} (ws : List ℕ) (limit : ℕ) → words ≡ heap_words ws
-      → loaded.loaded_tables r structs' types' cells' table' ≡ loaded.load_into words image structs types cells table → r ≡ loading.Refused q
-      → answering (Refused q) ws ≡ answered image ws limit
+  -- An answer that is a refusal is the image's answer.
+  pub unread_told : {r : Result Sizes Refusal} {q : Refusal} (ws : List ℕ) (limit : ℕ) → words ≡ heap_words ws
+      → loaded.loaded_tables r structs' types' cells' table' ≡ loaded.load_into words image structs types cells table → r ≡ Err q
+      → answering (Err q) ws ≡ answered image ws limit
   unfolding answered
   unread_told {r} {q} ws limit w l e = rw (← w) (go (read_image words image) refl)
     where
-      result : (d : Parsed Content) → read_image words image ≡ d → loading.Refused q ≡ loaded.loading d
+      result : (d : Parsed Content) → read_image words image ≡ d → Err q ≡ loaded.loading d
       result d h =
           sym e ∙ ap (λ (F : loaded.LoadedTables). F.result) l ∙ load_result words image structs types cells table room.types_room ∙ ap loaded.loading h
 
-      go : (d : Parsed Content) → read_image words image ≡ d → answering (Refused q) ws ≡ read_then ws limit (read_image words image)
-      go (got c next) h = let same : loading.Refused q ≡ loading.Loaded _ = result (got c next) h in differ cc
+      go : (d : Parsed Content) → read_image words image ≡ d → answering (Err q) ws ≡ read_then ws limit (read_image words image)
+      go (got c next) h = let same : Err q ≡ Ok _ = result (got c next) h in differ cc
       go (refused f i) h =
-          let same : loading.Refused q ≡ loading.Refused (record { fault = f; place = i }) = result (refused f i) h in
+          let same : Err q ≡ Err (record { fault = f; place = i }) = result (refused f i) h in
           let p : q ≡ record { fault = f; place = i } = cc in
           rw (h, p)
 
@@ -187,7 +183,7 @@ unfolding announced
 verdict_read words image e q = q ∙ sym (ap (announced_of words) e)
 
 -- So the judge's answer over the tables that loading left is the image's verdict.
-pub judged_read : {words : ℕ} {image : List ℕ} {n : Sizes} {structs types cells table marks queue bound marks' queue' bound' : List ℕ} {j : Judged}
+pub judged_read : {words : ℕ} {image : List ℕ} {n : Sizes} {structs types cells table marks queue bound marks' queue' bound' : List ℕ} {j : Result Kind Refusal}
     (l : LoadedAs words image n structs types cells table) → min (length image / 3) 4096 ≤ length marks → min (length image / 3) 4096 ≤ length queue
     → 64 ≤ length bound
     → ScriptJudged (take (17 * n.structs) structs) (take n.types types) (take (3 * n.cells) cells) (take (4 * n.nodes) table) marks queue bound j marks' queue' bound'

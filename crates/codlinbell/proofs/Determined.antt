@@ -1,4 +1,7 @@
 -- Determined: for each public function, any two answers that meet its contract are equal, and so is the lent memory that they leave.
+use Rattle.std.specs.Prelude.{Result, Ok, Err}
+use Rattle.cells.specs.declared.Kind.{Kind}
+use Rattle.calculus.specs.declared.Refusal.{Refusal}
 use Prim.Native.Nat.{ℕ, ◌+◌}
 use mathlib.Core.Path.{◌≡◌, sym, ap, ◌∙◌}
 use mathlib.Core.List.{List, [], ◌∷◌, ◌++◌}
@@ -6,13 +9,11 @@ use lib.ListN.{length}
 use lib.Seq.{sets}
 use Rattle.calculus.proofs.Apart.{differ}
 use Rattle.judge.specs.Script.{as_verdict}
-use Rattle.judge.specs.declared.Judged.{Judged}
-use Rattle.judge.specs.declared.Judged.TheVariants as judged
 use Rattle.codlinbell.specs.Answered.{Answered, answering, answered, announced}
 use Rattle.answers.specs.Out.{Numbered, numbered}
 use Rattle.codlinbell.specs.Hosted.{Hosted, hosted}
 use Rattle.answers.specs.Line.{line}
-use Rattle.answers.specs.declared.Answer.{Answer}
+use Rattle.answers.specs.Answer.{Answer}
 
 -- answer_within, and answer_to with the default limit
 pub answer_determined : (image ws : List ℕ) (limit : ℕ) (a b : Answer) (ws₁ ws₂ : List ℕ) → answering a ws₁ ≡ answered image ws limit
@@ -21,17 +22,17 @@ answer_determined image ws limit a b ws₁ ws₂ p q =
     let same : answering a ws₁ ≡ answering b ws₂ = p ∙ sym q in (ap (λ (r : Answered). r.answer) same, ap (λ (r : Answered). r.heap) same)
 
 -- an answer of the judge is determined by the verdict that it says
-same_judged : (a b : Judged) → as_verdict a ≡ as_verdict b → a ≡ b
-same_judged (judged.Good κ) (judged.Good κ') p = cc
-same_judged (judged.Good κ) (judged.Bad q) p = differ cc
-same_judged (judged.Bad q) (judged.Good κ) p = differ cc
-same_judged (judged.Bad q) (judged.Bad q') p =
+same_judged : (a b : Result Kind Refusal) → as_verdict a ≡ as_verdict b → a ≡ b
+same_judged (Ok κ) (Ok κ') p = cc
+same_judged (Ok κ) (Err q) p = differ cc
+same_judged (Err q) (Ok κ) p = differ cc
+same_judged (Err q) (Err q') p =
     let f : q.fault ≡ q'.fault = cc in
     let i : q.place ≡ q'.place = cc in
-    λ t. judged.Bad (record { fault = f t; place = i t })
+    λ t. Err (record { fault = f t; place = i t })
 
 -- judge_image
-pub verdict_determined : (words : ℕ) (image : List ℕ) (a b : Judged) → as_verdict a ≡ announced words image → as_verdict b ≡ announced words image → a ≡ b
+pub verdict_determined : (words : ℕ) (image : List ℕ) (a b : Result Kind Refusal) → as_verdict a ≡ announced words image → as_verdict b ≡ announced words image → a ≡ b
 verdict_determined words image a b p q = same_judged a b (p ∙ sym q)
 
 -- codlinbell_answer

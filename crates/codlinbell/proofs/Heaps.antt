@@ -1,5 +1,5 @@
 -- The heap of a content: it has W words, its kinds fit their codes, and storing the rows of the cell table over cleared words makes it.
-use Rattle.std.specs.Prelude.{None}
+use Rattle.std.specs.Prelude.{Option, None}
 use Prim.Native.Nat.{ℕ, suc, ◌+◌, ◌*◌, ◌/◌, ◌≤◌}
 use mathlib.Core.Path.{◌≡◌, refl, sym, ap, ◌∙◌}
 use mathlib.Core.List.{List, [], ◌∷◌}
@@ -10,6 +10,7 @@ use lib.Seq.{get_or-drop, drop-drop}
 use Rattle.cells.specs.Code.{packed}
 use Rattle.cells.specs.Heap.{Heap, update, SmallHeap}
 use Rattle.cells.specs.Lent.{lent, stored, cleared}
+use Rattle.cells.specs.declared.Cell.{Cell}
 use Rattle.cells.proofs.Heaps.{length_update, small_empty, small_update}
 use Rattle.cells.proofs.View.{stored_lent, cleared_lent}
 use Rattle.cells.specs.declared.Kind.{Kind}
@@ -72,5 +73,5 @@ pub cells_made : (ws : List ℕ) (words : ℕ) (ps : List Placed) → CellsRise 
     → cells_stored (cell_rows ps) (cleared ws words) ≡ lent (heap_of words ps) ws
 cells_made ws words ps r h =
     let n : length (cell_rows ps) / 3 ≡ length ps = omega (arith, rows_length ps) in
-    let l : length (replicate words None) ≡ words = length-replicate words None in
+    let l : length (replicate {A = Option Cell} words None) ≡ words = length-replicate {A = Option Cell} words None in
     rw (n, cleared_lent ws words h) (rows_lent (cell_rows ps) r 0 (replicate words None) ws refl (omega arith) (omega arith))

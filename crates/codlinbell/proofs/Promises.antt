@@ -1,4 +1,5 @@
 -- The promises, from bytes: what the answer to any image is, over any lent heap and limit. A reader starts here.
+use Rattle.std.specs.Prelude.{Ok, Err, Some}
 use Prim.Native.Nat.{ℕ}
 use mathlib.Core.Path.{◌≡◌, refl, ap, subst, ◌∙◌}
 use mathlib.Core.List.{List, []}
@@ -32,9 +33,7 @@ use Rattle.codlinbell.proofs.Heaps.{heap_length}
 use Rattle.codlinbell.specs.Answered.{Answered, answered, read_then, judged_then, content_verdict, content_run}
 use Rattle.codlinbell.specs.Promised.{setting_in, heap_in, Right, unread, untyped, runs, Blameless, StepsCounted, FromValue}
 use Rattle.answers.specs.Readings.{end_reading, reading_of}
-use Rattle.answers.specs.declared.Reading.TheVariants.{Number}
-use Rattle.answers.specs.declared.Answer.{Answer}
-use Rattle.answers.specs.declared.Answer.TheVariants.{Refused, Ran}
+use Rattle.answers.specs.Answer.{Answer}
 
 module _ (image ws : List ℕ) (limit : ℕ) where
   judged_right : (c : Content) (next : ℕ) → read_image (heap_words ws) image ≡ reading.got c next
@@ -75,7 +74,7 @@ run_blameless image ws limit c next κ q t z =
       end_good = blameless (setting_in ws c) (heap_in ws c) c.expr κ limit (sized image ws q) t z;
     }
 
-right_blameless : {image ws : List ℕ} {limit : ℕ} {a : Answered} → Right image ws limit a → (o : Outcome) → a.answer ≡ Ran o → o.first ≡ 0
+right_blameless : {image ws : List ℕ} {limit : ℕ} {a : Answered} → Right image ws limit a → (o : Outcome) → a.answer ≡ Ok o → o.first ≡ 0
     → Blameless image ws o a.heap
 right_blameless (unread e) o q z = differ cc
 right_blameless (untyped e f) o q z = differ cc
@@ -86,11 +85,11 @@ right_blameless {image} {ws} {limit} (runs {c} {next} {κ} e t) o q z =
 
 -- Demand 3, from bytes: where an image was run and no step of the run was unchecked, nor was it stuck inside an unchecked block, the run's
 -- end is good: never Stuck, and a value of the announced type that is well typed over the heap that it leaves.
-pub never_to_blame : (image ws : List ℕ) (limit : ℕ) (o : Outcome) → (answered image ws limit).answer ≡ Ran o → o.first ≡ 0
+pub never_to_blame : (image ws : List ℕ) (limit : ℕ) (o : Outcome) → (answered image ws limit).answer ≡ Ok o → o.first ≡ 0
     → Blameless image ws o (answered image ws limit).heap
 never_to_blame image ws limit o q z = right_blameless (answered_right image ws limit) o q z
 
-right_stepped : {image ws : List ℕ} {limit : ℕ} {a : Answered} → Right image ws limit a → (o : Outcome) → a.answer ≡ Ran o
+right_stepped : {image ws : List ℕ} {limit : ℕ} {a : Answered} → Right image ws limit a → (o : Outcome) → a.answer ≡ Ok o
     → StepsCounted image ws limit o
 right_stepped (unread e) o q = differ cc
 right_stepped (untyped e f) o q = differ cc
@@ -102,20 +101,20 @@ right_stepped {image} {ws} {limit} (runs {c} {next} e t) o q =
     (record { content = c; next = next; reads = e; few = n.few; all = n.all; left = n.left; allowed = l.most; spent = l.spent })
 
 -- "If a run ends with Value, its steps equal the count of nodes of codes 2 to 9; no run takes more."
-pub steps_counted : (image ws : List ℕ) (limit : ℕ) (o : Outcome) → (answered image ws limit).answer ≡ Ran o → StepsCounted image ws limit o
+pub steps_counted : (image ws : List ℕ) (limit : ℕ) (o : Outcome) → (answered image ws limit).answer ≡ Ok o → StepsCounted image ws limit o
 steps_counted image ws limit o q = right_stepped (answered_right image ws limit) o q
 
-right_kept : {image ws : List ℕ} {limit : ℕ} {a : Answered} → Right image ws limit a → (r : Refusal) → a.answer ≡ Refused r → a.heap ≡ ws
+right_kept : {image ws : List ℕ} {limit : ℕ} {a : Answered} → Right image ws limit a → (r : Refusal) → a.answer ≡ Err r → a.heap ≡ ws
 right_kept (unread e) r q = refl
 right_kept (untyped e f) r q = refl
 right_kept (runs e t) r q = differ cc
 
 -- "On a refusal every heap word, beyond W too, is as it was."
-pub refused_kept : (image ws : List ℕ) (limit : ℕ) (r : Refusal) → (answered image ws limit).answer ≡ Refused r
+pub refused_kept : (image ws : List ℕ) (limit : ℕ) (r : Refusal) → (answered image ws limit).answer ≡ Err r
     → (answered image ws limit).heap ≡ ws
 refused_kept image ws limit r q = right_kept (answered_right image ws limit) r q
 
-end_read : (o : Outcome) (e : End) (n : ℕ) → o.end ≡ e → end_reading e ≡ Number n → FromValue (Ran o) n
+end_read : (o : Outcome) (e : End) (n : ℕ) → o.end ≡ e → end_reading e ≡ Some n → FromValue (Ok o) n
 end_read o (Value c) n q r =
     let p : c.value ≡ n = cc in
     record { outcome = o; kind = c.kind; ran_it = refl; value = q ∙ ap (λ (k : ℕ). Value (cell k c.kind)) p }
@@ -124,6 +123,6 @@ end_read o Stuck n q r = differ cc
 end_read o More n q r = differ cc
 
 -- "a Value gives its number as the reading. Every other end gives none."
-pub reading_is_value : (a : Answer) (n : ℕ) → reading_of a ≡ Number n → FromValue a n
-reading_is_value (Refused r) n q = differ cc
-reading_is_value (Ran o) n q = end_read o o.end n refl q
+pub reading_is_value : (a : Answer) (n : ℕ) → reading_of a ≡ Some n → FromValue a n
+reading_is_value (Err r) n q = differ cc
+reading_is_value (Ok o) n q = end_read o o.end n refl q

@@ -1,6 +1,6 @@
 -- The answer for an image, a lent heap and a limit: the refusal, with the heap as it was lent, or the run's result and the heap's
 -- final numbers.
-use Rattle.std.specs.Prelude.{ℕ, List}
+use Rattle.std.specs.Prelude.{ℕ, List, Ok, Err}
 use Rattle.cells.specs.Lent.{heap_words, lent}
 use Rattle.calculus.specs.Judge.{Verdict, good, bad, judged}
 use Rattle.calculus.specs.Run.{Result, run}
@@ -8,8 +8,7 @@ use Rattle.calculus.specs.declared.Fault.{Fault}
 use Rattle.image.specs.Content.{Content, setting_of, heap_of}
 use Rattle.image.specs.Parsing as reading
 use Rattle.image.specs.Image.{read_image}
-use Rattle.answers.specs.declared.Answer.{Answer}
-use Rattle.answers.specs.declared.Answer.TheVariants.{Refused, Ran}
+use Rattle.answers.specs.Answer.{Answer}
 
 -- the answer, and the numbers of the lent heap
 pub record Answered : Type 0 where
@@ -21,11 +20,11 @@ answering a ws = record { answer = a; heap = ws }
 
 -- "On a refusal every heap word, beyond W too, is as it was."
 abbrev pub refusing : List ℕ → Fault → ℕ → Answered
-refusing ws f p = answering (Refused (record { fault = f; place = p })) ws
+refusing ws f p = answering (Err (record { fault = f; place = p })) ws
 
 -- the result of a run, with the heap's words in the lent numbers
 abbrev pub ran : List ℕ → Result → Answered
-ran ws r = answering (Ran r.outcome) (lent r.heap ws)
+ran ws r = answering (Ok r.outcome) (lent r.heap ws)
 
 -- "Where no limit is named it is 100,000."
 abbrev pub default_limit : ℕ

@@ -5,7 +5,7 @@ use Rattle.image.specs.Content.{Content}
 use Rattle.image.specs.Parsing.{got}
 use Rattle.image.specs.Image.{read_image}
 use Rattle.image.specs.Tabled.{Held}
-use Rattle.machine.specs.declared.Terms.{Terms}
+use Rattle.yields.specs.declared.Terms.{Terms}
 
 -- the terms of a script that may use the whole heap
 abbrev pub whole_heap : (words limit : ℕ) → Terms

@@ -1,5 +1,5 @@
 -- What is promised of the answer to an image, from bytes: which of three answers it is, and what holds of a run.
-use Rattle.std.specs.Prelude.{ℕ, ◌≤◌, ◌<◌, ◌≡◌, List, []}
+use Rattle.std.specs.Prelude.{ℕ, ◌≤◌, ◌<◌, ◌≡◌, List, [], Ok}
 use Rattle.cells.specs.Heap.{Heap}
 use Rattle.cells.specs.Lent.{heap_words, lent}
 use Rattle.cells.specs.declared.Kind.{Kind}
@@ -19,8 +19,7 @@ use Rattle.image.specs.Content.{Content, setting_of, heap_of}
 use Rattle.image.specs.Parsing as reading
 use Rattle.image.specs.Image.{read_image}
 use Rattle.codlinbell.specs.Answered.{Answered, refusing, ran, content_verdict}
-use Rattle.answers.specs.declared.Answer.{Answer}
-use Rattle.answers.specs.declared.Answer.TheVariants.{Ran}
+use Rattle.answers.specs.Answer.{Answer}
 
 -- the setting and the heap of a content over a lent heap
 abbrev pub setting_in : List ℕ → Content → Setting
@@ -67,5 +66,5 @@ pub record StepsCounted (image ws : List ℕ) (limit : ℕ) (o : Outcome) : Type
 pub record FromValue (a : Answer) (n : ℕ) : Type 0 where
   pub outcome : Outcome
   pub kind : Kind
-  pub ran_it : a ≡ Ran outcome
+  pub ran_it : a ≡ Ok outcome
   pub value : outcome.end ≡ Value (cell n kind)

@@ -1,5 +1,5 @@
 -- The worked images P1 to P14 with their variants, from bytes, as document 01 states them: image, words, limit, answer.
-use Rattle.std.specs.Prelude.{ℕ, ◌*◌, List, [], ◌∷◌, replicate}
+use Rattle.std.specs.Prelude.{ℕ, ◌*◌, List, [], ◌∷◌, replicate, Ok, Err}
 use Rattle.cells.specs.declared.Mode.TheVariants.{Checked}
 use Rattle.cells.specs.declared.Kind.TheVariants.{Int, Struct}
 use Rattle.calculus.specs.Setting.{cell}
@@ -9,8 +9,7 @@ use Rattle.calculus.specs.declared.Halt.TheVariants.{Null, Bounds, Room}
 use Rattle.calculus.specs.declared.Fault.{Fault}
 use Rattle.calculus.specs.declared.Fault.TheVariants as fault
 use Rattle.codlinbell.specs.Answered.{answered, default_limit}
-use Rattle.answers.specs.declared.Answer.{Answer}
-use Rattle.answers.specs.declared.Answer.TheVariants.{Refused, Ran}
+use Rattle.answers.specs.Answer.{Answer}
 
 -- a worked image: the heap's size in words, the limit, and the answer that document 01 states
 pub record WorkedImage : Type 0 where
@@ -20,10 +19,10 @@ pub record WorkedImage : Type 0 where
   pub stated : Answer
 
 abbrev pub ran_to : End → (steps first : ℕ) → Answer
-ran_to e n f = Ran (record { end = e; steps = n; first = f })
+ran_to e n f = Ok (record { end = e; steps = n; first = f })
 
 abbrev pub refused_with : Fault → ℕ → Answer
-refused_with f p = Refused (record { fault = f; place = p })
+refused_with f p = Err (record { fault = f; place = p })
 
 -- a row at W = 16 and the default limit
 abbrev pub at_sixteen : List ℕ → Answer → WorkedImage

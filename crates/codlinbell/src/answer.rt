@@ -1,17 +1,17 @@
 // The answer to an image over a lent heap: it is loaded into tables, judged, and run.
-ghost use Rattle.std.specs.Prelude.{ℕ, ◌≤◌, ◌<◌, ◌≡◌, List, length};
+ghost use Rattle.std.specs.Prelude.{ℕ, ◌*◌, ◌/◌, ◌≤◌, ◌≡◌, List, length, min, Ok};
 ghost use Rattle.image.specs.Content.{Content};
 ghost use Rattle.codlinbell.specs.Answered.{answering, answered, ran, judged_then, content_verdict, content_run, default_limit};
 ghost use Rattle.codlinbell.specs.Prepared.{LongTables, Prepared};
-ghost use Rattle.answers.specs.declared.Answer;
 
 use crate::heap::place_cells;
 use answers::Answer;
 use calculus::Outcome;
 use cells::{clear, heap_words};
-use image::{Loading, load};
-use judge::{Judged, judge_script};
-use machine::{Terms, run};
+use image::load;
+use judge::judge_script;
+use machine::run;
+use yields::Terms;
 
 // The steps that a run may take where no limit is named.
 pub const DEFAULT_LIMIT: u64 = 100000;
@@ -24,117 +24,38 @@ pub fn answer_to(image: &[u8], heap: &mut [u64]) -> Answer
 }
 
 // The answer to the image over the lent heap, with at most `limit` steps. Tables are made as long as an image of about this length can
-// need: clearing them is most of what a small script costs.
+// need, at 12, 31, 96 or 210 KiB: clearing them is most of what a small script costs.
 pub fn answer_within(image: &[u8], heap: &mut [u64], limit: u64) -> Answer
     ensures { answering result heap.new ≡ answered image.now heap.old limit }
 {
-    let length = image.len();
-    if length <= 64 {
-        return answer_tiny(heap, image, limit);
+    match image.len() {
+        ..=64 => answer_with::<64, 256, 21>(heap, image, limit),
+        ..=512 => answer_with::<512, 2048, 170>(heap, image, limit),
+        ..=2048 => answer_with::<2048, 8192, 682>(heap, image, limit),
+        _ => answer_with::<12288, 8192, 4096>(heap, image, limit),
     }
-    if length <= 512 {
-        return answer_short(heap, image, limit);
-    }
-    if length <= 2048 {
-        return answer_middling(heap, image, limit);
-    }
-    answer_long(heap, image, limit)
 }
 
-// Tables for an image of at most 64 bytes: 12 KiB.
-fn answer_tiny(heap: &mut [u64], image: &[u8], limit: u64) -> Answer
-    requires { length image.now ≤ 64 }
+// The same, with so many numbers for the cells, so many for the nodes, and so many entries for the judge's marks and queue. Each length has
+// a stack frame of its own, of 256 KiB at most.
+#[inline(never)]
+fn answer_with<const CELLS: usize, const NODES: usize, const ENTRIES: usize>(
+    heap: &mut [u64],
+    image: &[u8],
+    limit: u64,
+) -> Answer
+    requires cells_room { min (length image.now) 12288 ≤ CELLS }
+    requires nodes_room { 4 * min (length image.now) 2048 ≤ NODES }
+    requires fits { (CELLS ≤ 12288) × (NODES ≤ 8192) × (ENTRIES ≤ 4096) }
+    requires entries_room { min (length image.now / 3) 4096 ≤ ENTRIES }
     ensures { answering result heap.new ≡ answered image.now heap.old limit }
 {
     let mut structs = [0u64; 544];
     let mut types = [0u64; 256];
-    let mut cells = [0u64; 64];
-    let mut nodes = [0u64; 256];
-    let mut marks = [0u16; 21];
-    let mut queue = [0u64; 21];
-    let mut bound = [0u64; 128];
-    let mut frames = [0u64; 256];
-    answer_in(
-        heap,
-        &mut structs,
-        &mut types,
-        &mut cells,
-        &mut nodes,
-        &mut marks,
-        &mut queue,
-        &mut bound,
-        &mut frames,
-        image,
-        limit,
-    )
-}
-
-// For one of at most 512 bytes: 31 KiB.
-fn answer_short(heap: &mut [u64], image: &[u8], limit: u64) -> Answer
-    requires { length image.now ≤ 512 }
-    ensures { answering result heap.new ≡ answered image.now heap.old limit }
-{
-    let mut structs = [0u64; 544];
-    let mut types = [0u64; 256];
-    let mut cells = [0u64; 512];
-    let mut nodes = [0u64; 2048];
-    let mut marks = [0u16; 170];
-    let mut queue = [0u64; 170];
-    let mut bound = [0u64; 128];
-    let mut frames = [0u64; 256];
-    answer_in(
-        heap,
-        &mut structs,
-        &mut types,
-        &mut cells,
-        &mut nodes,
-        &mut marks,
-        &mut queue,
-        &mut bound,
-        &mut frames,
-        image,
-        limit,
-    )
-}
-
-// For one of at most 2,048 bytes: 96 KiB.
-fn answer_middling(heap: &mut [u64], image: &[u8], limit: u64) -> Answer
-    requires { length image.now ≤ 2048 }
-    ensures { answering result heap.new ≡ answered image.now heap.old limit }
-{
-    let mut structs = [0u64; 544];
-    let mut types = [0u64; 256];
-    let mut cells = [0u64; 2048];
-    let mut nodes = [0u64; 8192];
-    let mut marks = [0u16; 682];
-    let mut queue = [0u64; 682];
-    let mut bound = [0u64; 128];
-    let mut frames = [0u64; 256];
-    answer_in(
-        heap,
-        &mut structs,
-        &mut types,
-        &mut cells,
-        &mut nodes,
-        &mut marks,
-        &mut queue,
-        &mut bound,
-        &mut frames,
-        image,
-        limit,
-    )
-}
-
-// For any image: 210 KiB.
-fn answer_long(heap: &mut [u64], image: &[u8], limit: u64) -> Answer
-    ensures { answering result heap.new ≡ answered image.now heap.old limit }
-{
-    let mut structs = [0u64; 544];
-    let mut types = [0u64; 256];
-    let mut cells = [0u64; 12288];
-    let mut nodes = [0u64; 8192];
-    let mut marks = [0u16; 4096];
-    let mut queue = [0u64; 4096];
+    let mut cells = [0u64; CELLS];
+    let mut nodes = [0u64; NODES];
+    let mut marks = [0u16; ENTRIES];
+    let mut queue = [0u64; ENTRIES];
     let mut bound = [0u64; 128];
     let mut frames = [0u64; 256];
     answer_in(
@@ -170,29 +91,25 @@ fn answer_in(
     ensures { answering result heap.new ≡ answered image.now heap.old limit }
 {
     let words = heap_words(heap);
-    match load(image, words, structs, types, cells, nodes) {
-        Loading::Loaded(sizes) => {
-            let s = 17 * sizes.structs;
-            let t = sizes.types;
-            let c = 3 * sizes.cells;
-            let n = 4 * sizes.nodes;
-            let marked = sizes.cells;
-            judge_and_run(
-                heap,
-                &mut marks[..marked],
-                queue,
-                bound,
-                frames,
-                &structs[..s],
-                &types[..t],
-                &cells[..c],
-                &nodes[..n],
-                words,
-                limit,
-            )
-        }
-        Loading::Refused(refusal) => Answer::Refused(refusal),
-    }
+    let sizes = load(image, words, structs, types, cells, nodes)?;
+    let s = 17 * sizes.structs;
+    let t = sizes.types;
+    let c = 3 * sizes.cells;
+    let n = 4 * sizes.nodes;
+    let marked = sizes.cells;
+    judge_and_run(
+        heap,
+        &mut marks[..marked],
+        queue,
+        bound,
+        frames,
+        &structs[..s],
+        &types[..t],
+        &cells[..c],
+        &nodes[..n],
+        words,
+        limit,
+    )
 }
 
 // The content of the tables is judged, and run if it is accepted; if not, the heap stays as it is.
@@ -213,12 +130,10 @@ fn judge_and_run(
         → Prepared image heap.old words c structs.now types.now cells.now nodes.now marks.old queue.old bound.old frames.old
         → answering result heap.new ≡ judged_then heap.old (content_verdict heap.old c) (λ _. content_run heap.old limit c) }
 {
-    match judge_script(structs, types, cells, nodes, marks, queue, bound) {
-        Judged::Good(kind) => Answer::Ran(place_and_run(
-            heap, bound, frames, structs, types, cells, nodes, words, limit,
-        )),
-        Judged::Bad(refusal) => Answer::Refused(refusal),
-    }
+    judge_script(structs, types, cells, nodes, marks, queue, bound)?;
+    Ok(place_and_run(
+        heap, bound, frames, structs, types, cells, nodes, words, limit,
+    ))
 }
 
 // The content of the tables is run over its own heap.
@@ -235,7 +150,7 @@ fn place_and_run(
 ) -> Outcome
     ensures { (image : List ℕ) (c : Content) (marks queue : List ℕ)
         → Prepared image heap.old words c structs.now types.now cells.now nodes.now marks queue bound.old frames.old
-        → answering (Answer.Ran result) heap.new ≡ ran heap.old (content_run heap.old limit c) }
+        → answering (Ok result) heap.new ≡ ran heap.old (content_run heap.old limit c) }
 {
     clear(heap, words);
     place_cells(heap, cells);

@@ -4,11 +4,13 @@ ghost use Rattle.judge.specs.Script.{as_verdict};
 ghost use Rattle.codlinbell.specs.Answered.{announced};
 ghost use Rattle.codlinbell.specs.Prepared.{LongTables};
 
-use image::{Loading, load};
-use judge::{Judged, judge_script};
+use calculus::Refusal;
+use cells::Kind;
+use image::load;
+use judge::judge_script;
 
 // The verdict on the image over a heap of `words` words, of which at most 4,096 are used.
-pub fn judge_image(image: &[u8], words: usize) -> Judged
+pub fn judge_image(image: &[u8], words: usize) -> Result<Kind, Refusal>
     ensures { as_verdict result ≡ announced (min words 4096) image.now }
 {
     let mut structs = [0u64; 544];
@@ -27,14 +29,8 @@ pub fn judge_image(image: &[u8], words: usize) -> Judged
         &mut queue,
         &mut bound,
         image,
-        most_words(words),
+        words.min(4096),
     )
-}
-
-fn most_words(words: usize) -> usize
-    ensures { result ≡ min words 4096 }
-{
-    if words < 4096 { words } else { 4096 }
 }
 
 // The verdict, with tables that are long enough for any content of the image. Frames are not needed: `bound` stands for them in `LongTables`.
@@ -48,26 +44,22 @@ fn judge_in(
     bound: &mut [u64],
     image: &[u8],
     words: usize,
-) -> Judged
+) -> Result<Kind, Refusal>
     requires { LongTables image.now structs.old types.old cells.old nodes.old marks.old queue.old bound.old bound.old }
     ensures { as_verdict result ≡ announced words image.now }
 {
-    match load(image, words, structs, types, cells, nodes) {
-        Loading::Loaded(sizes) => {
-            let s = 17 * sizes.structs;
-            let t = sizes.types;
-            let c = 3 * sizes.cells;
-            let n = 4 * sizes.nodes;
-            judge_script(
-                &structs[..s],
-                &types[..t],
-                &cells[..c],
-                &nodes[..n],
-                marks,
-                queue,
-                bound,
-            )
-        }
-        Loading::Refused(refusal) => Judged::Bad(refusal),
-    }
+    let sizes = load(image, words, structs, types, cells, nodes)?;
+    let s = 17 * sizes.structs;
+    let t = sizes.types;
+    let c = 3 * sizes.cells;
+    let n = 4 * sizes.nodes;
+    judge_script(
+        &structs[..s],
+        &types[..t],
+        &cells[..c],
+        &nodes[..n],
+        marks,
+        queue,
+        bound,
+    )
 }

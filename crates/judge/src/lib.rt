@@ -19,7 +19,7 @@ mod rules;
 // The lent tables that hold a script. Loops take them by value, since the compiler then keeps the slices in registers, and the recursion
 // by reference.
 #[derive(Clone, Copy)]
-struct Script<'a> {
+struct ScriptTables<'a> {
     structs: &'a [u64],
     types: &'a [u64],
     cells: &'a [u64],
@@ -41,7 +41,7 @@ pub fn judge_script(
         marks.old queue.old bound.old
         result marks.new queue.new bound.new }
 {
-    let script = Script {
+    let script = ScriptTables {
         structs,
         types,
         cells,

@@ -4,7 +4,7 @@ ghost use Rattle.std.specs.Prelude.{◌+◌, ◌<◌, ◌≤◌, ◌^◌, ◌≡
 ghost use Rattle.judge.specs.Marks.{seen};
 ghost use Rattle.judge.specs.Literals.{span, claim, look_fields, look_alike, look_at, literal_look, node_look, first_bad, looking, found};
 
-use crate::Script;
+use crate::ScriptTables;
 use crate::addresses::covered;
 use crate::marks::{mark, mark_at, put_mark};
 use crate::rows::{entry, operation_at, row};
@@ -14,7 +14,7 @@ use tables::{is_checked, size_of, tag_of, type_code, word_type};
 
 // How many words a literal needs: those that its target covers, if it is a checked pointer other than 0.
 #[tactic(auto, unfolding(crate::specs::Literals::span))]
-fn span(script: Script, value: u64, code: u64) -> usize
+fn span(script: ScriptTables, value: u64, code: u64) -> usize
     ensures { result ≡ span script.entry.structs.now value code }
 {
     if value != 0 && is_checked(code) {
@@ -25,7 +25,7 @@ fn span(script: Script, value: u64, code: u64) -> usize
 }
 
 // The code that a pointer's i-th word has to have.
-fn claim(script: Script, code: u64, i: usize) -> u64
+fn claim(script: ScriptTables, code: u64, i: usize) -> u64
     ensures { result ≡ claim script.entry.structs.now script.entry.types.now code i }
 {
     type_code(script.types, word_type(script.structs, code, i))
@@ -37,7 +37,7 @@ fn claim(script: Script, code: u64, i: usize) -> u64
 fn look_fields(
     marks: &mut [u16],
     queue: &mut [u64],
-    script: Script,
+    script: ScriptTables,
     tail: usize,
     code: u64,
     first: usize,
@@ -65,7 +65,7 @@ fn look_fields(
 fn look_alike(
     marks: &mut [u16],
     queue: &mut [u64],
-    script: Script,
+    script: ScriptTables,
     tail: usize,
     code: u64,
     first: usize,
@@ -103,7 +103,7 @@ fn look_alike(
 fn look_at(
     marks: &mut [u16],
     queue: &mut [u64],
-    script: Script,
+    script: ScriptTables,
     tail: usize,
     value: u64,
     code: u64,
@@ -128,7 +128,7 @@ fn look_at(
 fn literal_look(
     marks: &mut [u16],
     queue: &mut [u64],
-    script: Script,
+    script: ScriptTables,
     tail: usize,
     value: u64,
     code: u64,
@@ -158,7 +158,7 @@ fn literal_look(
 fn node_look(
     marks: &mut [u16],
     queue: &mut [u64],
-    script: Script,
+    script: ScriptTables,
     tail: usize,
     i: usize,
 ) -> Option<usize>
@@ -176,7 +176,7 @@ fn node_look(
 }
 
 // How many nodes there are before the first literal that isn't well typed over the cells: all of them if there is none.
-pub fn first_bad(marks: &mut [u16], queue: &mut [u64], script: Script) -> usize
+pub fn first_bad(marks: &mut [u16], queue: &mut [u64], script: ScriptTables) -> usize
     ensures { found result marks.new queue.new
         ≡ first_bad script.entry.structs.now script.entry.types.now script.entry.cells.now script.entry.nodes.now
         marks.old queue.old }

@@ -2,7 +2,7 @@
 ghost use Rattle.std.specs.Prelude.{◌+◌, ◌<◌, ◌^◌, ◌≡◌};
 ghost use Rattle.judge.specs.Nodes.{judging, judge_node};
 
-use crate::Script;
+use crate::ScriptTables;
 use crate::parts::{bind_kind, inner_lets, inner_mode, is_access, parts};
 use crate::rows::{operation_at, row};
 use crate::rules::{leaf_told, no_rule, one_told, two_told};
@@ -16,7 +16,7 @@ use cells::Mode;
 pub fn judge_node(
     bound: &mut [u64],
     left: usize,
-    script: &Script,
+    script: &ScriptTables,
     good: usize,
     access: bool,
     lets: usize,

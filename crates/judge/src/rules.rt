@@ -4,7 +4,7 @@ ghost use Rattle.judge.specs.Rules.{no_rule_told, follows_code, castable_code, a
 ghost use Rattle.judge.specs.Rules.{assign_told, summable, sum_told, act_told, two_told};
 ghost use Rattle.judge.specs.Rules.{literal_told, variable_told, malloc_told, leaf_told};
 
-use crate::Script;
+use crate::ScriptTables;
 use crate::rows::row;
 use calculus::{Act, Fault, Operation, Refusal};
 use cells::{Mode, word};
@@ -73,7 +73,7 @@ fn cast_told(mode: Mode, i: usize, code: u64) -> Result<u64, Refusal>
 
 // A node with one part, of type x.
 pub fn one_told(
-    script: &Script,
+    script: &ScriptTables,
     mode: Mode,
     i: usize,
     operation: Operation,
@@ -141,7 +141,7 @@ fn act_told(
 
 // A node with two parts, of types x and y.
 pub fn two_told(
-    script: &Script,
+    script: &ScriptTables,
     mode: Mode,
     i: usize,
     access: bool,
@@ -161,7 +161,7 @@ pub fn two_told(
 // A node without parts: literal i is well typed if it is among the first `good` nodes.
 pub fn leaf_told(
     bound: &[u64],
-    script: &Script,
+    script: &ScriptTables,
     good: usize,
     lets: usize,
     i: usize,

@@ -1,17 +1,18 @@
 -- The last arm of a match on an operation, for all that have no arm of their own: what the definitions then say.
-use Rattle.std.proofs.Common.{◌≡◌, ℕ, List, refl}
+use Rattle.std.proofs.Common.{◌≡◌, ℕ, Bool, List, refl}
 use Rattle.calculus.specs.declared.Act.{Act}
 use Rattle.calculus.specs.declared.Operation.{Operation}
 use Rattle.calculus.specs.declared.Operation.TheVariants as op
+use Rattle.machine.specs.declared.CodedValue.{CodedValue}
 use Rattle.machine.specs.declared.State.{State}
-use Rattle.machine.specs.declared.Terms.{Terms}
-use Rattle.machine.specs.declared.Yield.TheVariants.{Blocked}
+use Rattle.yields.specs.declared.Terms.{Terms}
+use Rattle.yields.specs.declared.Yield.TheVariants.{Blocked}
 use Rattle.machine.specs.States.{on_frames}
-use Rattle.machine.specs.Yields.{one_yield}
+use Rattle.machine.specs.Redexes.{one_yield}
 use Rattle.machine.specs.Nodes.{inside_of, first_part, entered}
 use Rattle.machine.specs.Values.{by_parts}
 
-pub not_block : (o : Operation) (x : ℕ) → (o ≡ op.Unchecked → ⊥) → inside_of o x ≡ x
+pub not_block : (o : Operation) (x : Bool) → (o ≡ op.Unchecked → ⊥) → inside_of o x ≡ x
 not_block op.Literal x n = refl
 not_block op.Variable x n = refl
 not_block op.Let x n = refl
@@ -23,9 +24,9 @@ not_block (op.Acts a) x n = refl
 not_block op.Field x n = refl
 not_block op.Unknown x n = refl
 
-module _ (structs types : List ℕ) (terms : Terms) (ws frames bound : List ℕ) (s : State) (argument kind : ℕ) where
+module _ (structs types : List ℕ) (terms : Terms) (ws frames bound : List ℕ) (s : State) (at argument kind : ℕ) where
   pub not_leaf : (o : Operation) → (o ≡ op.Literal → ⊥) → (o ≡ op.Variable → ⊥) → (o ≡ op.Malloc → ⊥)
-      → entered structs types terms ws frames bound s o argument kind ≡ on_frames ws bound (first_part frames s o)
+      → entered structs types terms ws frames bound s at o argument kind ≡ on_frames ws bound (first_part frames s at o)
   unfolding entered
   not_leaf op.Literal l v m = absurd (l refl)
   not_leaf op.Variable l v m = absurd (v refl)
@@ -38,9 +39,9 @@ module _ (structs types : List ℕ) (terms : Terms) (ws frames bound : List ℕ)
   not_leaf op.Field l v m = refl
   not_leaf op.Unknown l v m = refl
 
-module _ (structs : List ℕ) (words : ℕ) (ws : List ℕ) (v code argument kind : ℕ) where
+module _ (structs : List ℕ) (words : ℕ) (ws : List ℕ) (v : CodedValue) (argument kind : ℕ) where
   pub not_single : (o : Operation) → (o ≡ op.Unchecked → ⊥) → (o ≡ op.Cast → ⊥) → (o ≡ op.Read → ⊥) → (o ≡ op.Field → ⊥)
-      → one_yield structs words ws v code o argument kind ≡ Blocked
+      → one_yield structs words ws v o argument kind ≡ Blocked
   unfolding one_yield
   not_single op.Literal u k r f = refl
   not_single op.Variable u k r f = refl
@@ -65,17 +66,3 @@ not_pair op.Read binds acts other l n = refl
 not_pair (op.Acts a) binds acts other l n = absurd (n a refl)
 not_pair op.Field binds acts other l n = refl
 not_pair op.Unknown binds acts other l n = refl
-
--- what holds of each side holds of the choice by parts
-pub parts_case : {A : Type 0} (P : A → Type 0) (o : Operation) (binds : Unit {0} → A) (acts : Act → A) (other : Unit {0} → A)
-    → P (binds tt) → ((a : Act) → P (acts a)) → P (other tt) → P (by_parts o binds acts other)
-parts_case P op.Literal binds acts other b a' r = r
-parts_case P op.Variable binds acts other b a' r = r
-parts_case P op.Let binds acts other b a' r = b
-parts_case P op.Malloc binds acts other b a' r = r
-parts_case P op.Unchecked binds acts other b a' r = r
-parts_case P op.Cast binds acts other b a' r = r
-parts_case P op.Read binds acts other b a' r = r
-parts_case P (op.Acts a) binds acts other b a' r = a' a
-parts_case P op.Field binds acts other b a' r = r
-parts_case P op.Unknown binds acts other b a' r = r

@@ -1,10 +1,9 @@
 -- What the machine's functions and its simulation rest on.
 pub mod Memory
 pub mod Arms
-pub mod Slow
 pub mod Fill
 pub mod Stack
-pub mod Redexes
+pub mod Ready
 pub mod Transitions
 pub mod Simulation
 pub mod Beyond

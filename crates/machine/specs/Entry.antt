@@ -7,7 +7,7 @@ use Rattle.calculus.specs.Setting.{Setting}
 use Rattle.calculus.specs.Expr.{Expr}
 use Rattle.calculus.specs.Run.{Result, run}
 use Rattle.calculus.specs.declared.Outcome.{Outcome}
-use Rattle.machine.specs.declared.Terms.{Terms}
+use Rattle.yields.specs.declared.Terms.{Terms}
 use Rattle.machine.specs.Turns.{finished, driven}
 use Rattle.machine.specs.Ready.{Ready}
 

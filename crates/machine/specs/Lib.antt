@@ -2,9 +2,9 @@
 pub mod Ready
 pub mod Entry
 -- Models of the code: they settle every number of the answer and of the lent memory; what is said of a script rests on none.
-pub mod Tables
+pub mod Rows
 pub mod States
-pub mod Yields
+pub mod Redexes
 pub mod Malloc
 pub mod Nodes
 pub mod Values

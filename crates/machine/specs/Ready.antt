@@ -8,7 +8,7 @@ use Rattle.calculus.specs.Setting.{Setting}
 use Rattle.calculus.specs.Expr.{Expr, nodes}
 use Rattle.image.specs.Shape.{Scoped, SmallExpr, height}
 use Rattle.image.specs.Tabled.{HeldStructs, Spans}
-use Rattle.machine.specs.declared.Terms.{Terms}
+use Rattle.yields.specs.declared.Terms.{Terms}
 
 -- The lent numbers hold the setting's tables, the expression e and, over the numbers ws that were lent, the heap H; its numbers have 32
 -- bits, and malloc may use the addresses that the terms say, which are words of the heap; and there is room to run e.

@@ -4,38 +4,44 @@
 // cell.
 #![tactic(auto)]
 
-use calculus::{Halt, Operation, Outcome};
+use calculus::{Operation, Outcome};
+use std::ops::ControlFlow;
+use yields::{Hint, Terms};
 
-// On what terms a script is run: how many words the heap has, the lowest and the highest address that malloc may use, and how many steps
-// it may take.
+// The lent tables that hold a script, and on what terms it is run.
 #[derive(Clone, Copy)]
-pub struct Terms {
-    pub words: usize,
-    pub low: usize,
-    pub high: usize,
-    pub limit: u64,
+pub struct NodeScript<'a> {
+    pub nodes: &'a [u64],
+    pub structs: &'a [u64],
+    pub types: &'a [u64],
+    pub terms: Terms,
 }
 
-// Where the machine stands. In focus is the node of number `at` where `code` is 0, else the value `at` that a part gave, with the code
-// of its kind (no kind has the code 0). Then how many frames and bound values there are, whether the focus lies inside an unchecked
-// block (0 if not), the steps taken, the number of the first unchecked one, 0 if there was none, and where malloc may start to look.
+// A value as a number with the code of its kind.
+#[derive(Clone, Copy)]
+pub struct CodedValue {
+    pub value: u64,
+    pub code: u64,
+}
+
+// What is in focus: a node, by its number, or the value that a part gave.
+#[derive(Clone, Copy)]
+pub enum Focus {
+    Node(u64),
+    Value(CodedValue),
+}
+
+// Where the machine stands: what is in focus, how many frames and bound values there are, whether the focus lies inside an unchecked
+// block, the steps taken, the number of the first unchecked one, 0 if there was none, and where malloc may start to look.
 #[derive(Clone, Copy)]
 pub struct State {
-    pub at: u64,
-    pub code: u64,
+    pub focus: Focus,
     pub height: usize,
     pub lets: usize,
-    pub inside: u64,
+    pub inside: bool,
     pub steps: u64,
     pub first: u64,
     pub hint: Hint,
-}
-
-// Words are never freed: no run of `size` undefined words, or of more, starts below `from`.
-#[derive(Clone, Copy)]
-pub struct Hint {
-    pub size: usize,
-    pub from: usize,
 }
 
 // A node as its row has it: what it does, its argument, the code of its kind or target, and the number of its second part.
@@ -47,27 +53,24 @@ pub struct Node {
     pub second: u64,
 }
 
-// What a node gives once its parts are values: a value with the code of its kind, a halt, or that no rule fits.
+// A frame as its row has it: a node that waits, whether it lies inside an unchecked block, and the value of its first part, once there is
+// one.
 #[derive(Clone, Copy)]
-pub enum Yield {
-    Gives { value: u64, code: u64 },
-    Halts(Halt),
-    Blocked,
+pub struct Frame {
+    pub node: u64,
+    pub inside: bool,
+    pub first: Option<CodedValue>,
 }
 
 // What a transition comes to: the machine goes on, or the run ends.
-#[derive(Clone, Copy)]
-pub enum Turn {
-    Goes(State),
-    Ends(Outcome),
-}
+pub type Turn = ControlFlow<Outcome, State>;
 
 mod malloc;
 mod nodes;
+mod redexes;
+mod rows;
 mod states;
-mod tables;
 mod turns;
 mod values;
-mod yields;
 
 pub use turns::run;

@@ -1,13 +1,15 @@
 // The run: transitions are made until one ends it.
-ghost use Rattle.std.specs.Prelude.{◌≡◌, ◌^◌, ◌<◌};
+ghost use Rattle.std.specs.Prelude.{◌≡◌};
 ghost use Rattle.machine.specs.Turns.{transition};
 ghost use Rattle.machine.specs.States.{moved};
 ghost use Rattle.machine.specs.Entry.{Stepped};
 
 use crate::nodes::enter;
 use crate::values::resume;
-use crate::{Hint, State, Terms, Turn};
+use crate::{Focus, NodeScript, State, Turn};
 use calculus::{End, Outcome};
+use std::ops::ControlFlow;
+use yields::{Hint, Terms};
 
 // Runs the expression of the node table over the heap, on these terms.
 pub fn run(
@@ -21,12 +23,17 @@ pub fn run(
 ) -> Outcome
     ensures { Stepped nodes.now structs.now types.now terms heap.old frames.old bound.old result heap.new frames.new bound.new }
 {
+    let script = NodeScript {
+        nodes,
+        structs,
+        types,
+        terms,
+    };
     let mut s = State {
-        at: 0,
-        code: 0,
+        focus: Focus::Node(0),
         height: 0,
         lets: 0,
-        inside: 0,
+        inside: false,
         steps: 0,
         first: 0,
         hint: Hint {
@@ -35,42 +42,29 @@ pub fn run(
         },
     };
     // Each node is entered once, and each of its parts hands back one value: a transition for each number of the table is enough.
-    let mut ticks = nodes.len();
-    while ticks > 0 {
-        match turn(heap, frames, bound, nodes, structs, types, terms, s) {
-            Turn::Goes(next) => {
-                s = next;
-            }
-            Turn::Ends(outcome) => {
-                return outcome;
-            }
+    for _ in 0..nodes.len() {
+        match turn(heap, frames, bound, &script, s) {
+            ControlFlow::Continue(next) => s = next,
+            ControlFlow::Break(outcome) => return outcome,
         }
-        ticks -= 1;
     }
-    Outcome {
-        end: End::Stuck,
-        steps: s.steps,
-        first: s.first,
-    }
+    s.outcome(End::Stuck)
 }
 
 // One transition: a node is in focus, or a value.
+#[tactic(auto, unfolding(crate::specs::Turns::transition))]
 fn turn(
     heap: &mut [u64],
     frames: &mut [u64],
     bound: &mut [u64],
-    nodes: &[u64],
-    structs: &[u64],
-    types: &[u64],
-    terms: Terms,
+    script: &NodeScript,
     s: State,
 ) -> Turn
-    requires { s.steps < 2 ^ 63 }
-    ensures { moved result heap.new frames.new bound.new ≡ transition nodes.now structs.now types.now terms heap.old frames.old bound.old s }
+    ensures { moved result heap.new frames.new bound.new
+        ≡ transition script.now.nodes.now script.now.structs.now script.now.types.now script.now.terms heap.old frames.old bound.old s }
 {
-    if s.code == 0 {
-        enter(heap, frames, bound, nodes, structs, types, terms, s)
-    } else {
-        resume(heap, frames, bound, nodes, structs, terms, s)
+    match s.focus {
+        Focus::Node(at) => enter(heap, frames, bound, script, s, at),
+        Focus::Value(v) => resume(heap, frames, bound, script, s, v),
     }
 }

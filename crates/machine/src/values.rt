@@ -1,111 +1,135 @@
 // A value is in focus: it is the whole expression's, or it is handed back to the node in the topmost frame.
-ghost use Rattle.std.specs.Prelude.{◌≡◌, ◌^◌, ◌<◌};
+ghost use Rattle.std.specs.Prelude.{◌≡◌};
 ghost use Rattle.machine.specs.Values.{handing, after_first, after_second, binding, second_part};
 ghost use Rattle.machine.specs.States.{leaving, moved, stacked};
 
-use crate::states::{
-    at_height, before, contracted, done, focused, more, stepped, stuck, with_lets,
-};
-use crate::tables::{keep, node_at, row};
-use crate::yields::{act, one};
-use crate::{Node, State, Terms, Turn};
+use crate::redexes::{act, one};
+use crate::rows::{frame_at, keep, node_at};
+use crate::{CodedValue, Focus, Node, NodeScript, State, Turn};
 use calculus::Operation;
 use cells::put_word;
+use std::ops::ControlFlow;
+use yields::Terms;
 
+#[tactic(auto, unfolding(crate::specs::Values::handing))]
 pub fn resume(
     heap: &mut [u64],
     frames: &mut [u64],
     bound: &mut [u64],
-    nodes: &[u64],
-    structs: &[u64],
-    terms: Terms,
+    script: &NodeScript,
     s: State,
+    v: CodedValue,
 ) -> Turn
-    requires { s.steps < 2 ^ 63 }
-    ensures { moved result heap.new frames.new bound.new ≡ handing nodes.now structs.now terms heap.old frames.old bound.old s }
+    ensures { moved result heap.new frames.new bound.new
+        ≡ handing script.now.nodes.now script.now.structs.now script.now.terms heap.old frames.old bound.old s v }
 {
-    let height = s.height;
-    if height == 0 {
-        return done(s);
+    if s.height == 0 {
+        return s.done(v);
     }
-    let top = height - 1;
-    let node = node_at(nodes, row(frames, top, 0) as usize);
-    let inside = row(frames, top, 1);
-    let kind = row(frames, top, 3);
-    if kind == 0 {
-        let around = at_height(s, height, inside);
-        after_first(frames, bound, heap, structs, terms, around, node)
-    } else {
-        let around = at_height(s, top, inside);
-        let value = row(frames, top, 2);
-        let operation = node.operation;
-        after_second(heap, terms, around, operation, value, kind)
+    let top = s.height - 1;
+    let frame = frame_at(frames, top);
+    let inside = frame.inside;
+    let node = node_at(script.nodes, frame.node as usize);
+    match frame.first {
+        None => {
+            let around = State { inside, ..s };
+            after_first(frames, bound, heap, script, around, v, node)
+        }
+        Some(first) => {
+            let around = State {
+                height: top,
+                inside,
+                ..s
+            };
+            after_second(heap, script.terms, around, v, node.operation, first)
+        }
     }
 }
 
 // The value is that of the node's first part.
+#[tactic(auto, using(crate::proofs::Arms::not_pair), unfolding(crate::specs::Values::after_first))]
 fn after_first(
     frames: &mut [u64],
     bound: &mut [u64],
     heap: &[u64],
-    structs: &[u64],
-    terms: Terms,
+    script: &NodeScript,
     s: State,
+    v: CodedValue,
     node: Node,
 ) -> Turn
-    requires { s.steps < 2 ^ 63 }
-    ensures { stacked result frames.new bound.new ≡ after_first structs.now terms heap.now frames.old bound.old s node }
+    ensures { stacked result frames.new bound.new
+        ≡ after_first script.now.structs.now script.now.terms heap.now frames.old bound.old s v node }
 {
-    let operation = node.operation;
-    match operation {
-        Operation::Let => bind(frames, bound, terms.limit, s, node.second),
-        Operation::Acts(_) => second_part(frames, s, node.second),
+    let limit = script.terms.limit;
+    match node.operation {
+        Operation::Let => bind(frames, bound, limit, s, v, node.second),
+        Operation::Acts(_) => second_part(frames, s, v, node.second),
         _ => {
-            let given = one(heap, structs, terms.words, s, node);
-            contracted(at_height(s, before(s.height), s.inside), terms.limit, given)
+            let given = one(heap, script.structs, script.terms.words, v, node);
+            let popped = State {
+                height: s.height.saturating_sub(1),
+                ..s
+            };
+            popped.contracted(limit, given)
         }
     }
 }
 
 // The value is that of the node's second part, or of a let's body; the value of its first part is told.
+#[tactic(auto, using(crate::proofs::Arms::not_pair), unfolding(crate::specs::Values::after_second))]
 fn after_second(
     heap: &mut [u64],
     terms: Terms,
     s: State,
+    v: CodedValue,
     operation: Operation,
-    value: u64,
-    kind: u64,
+    first: CodedValue,
 ) -> Turn
-    requires { s.steps < 2 ^ 63 }
-    ensures { leaving result heap.new ≡ after_second terms heap.old s operation value kind }
+    ensures { leaving result heap.new ≡ after_second terms heap.old s v operation first }
 {
     match operation {
-        Operation::Let => Turn::Goes(with_lets(s, before(s.lets))),
-        Operation::Acts(o) => act(heap, terms, s, o, value, kind),
-        _ => stuck(s),
+        Operation::Let => ControlFlow::Continue(State {
+            lets: s.lets.saturating_sub(1),
+            ..s
+        }),
+        Operation::Acts(o) => act(heap, terms, s, v, o, first),
+        _ => s.stuck(),
     }
 }
 
 // The value of a let's bound part is bound, and its body is entered.
-fn bind(frames: &mut [u64], bound: &mut [u64], limit: u64, s: State, body: u64) -> Turn
-    requires { s.steps < 2 ^ 63 }
-    ensures { stacked result frames.new bound.new ≡ binding limit frames.old bound.old s body }
+#[tactic(auto, unfolding(crate::specs::Values::binding))]
+fn bind(
+    frames: &mut [u64],
+    bound: &mut [u64],
+    limit: u64,
+    s: State,
+    v: CodedValue,
+    body: u64,
+) -> Turn
+    ensures { stacked result frames.new bound.new ≡ binding limit frames.old bound.old s v body }
 {
     let lets = s.lets;
     if bound.len() / 2 <= lets {
-        return stuck(s);
+        return s.stuck();
     }
-    if limit <= s.steps {
-        return more(s);
-    }
-    put_word(bound, lets + 1, s.at, s.code);
-    second_part(frames, with_lets(stepped(s), lets + 1), body)
+    let next = s.step_within(limit)?;
+    put_word(bound, lets + 1, v.value, v.code);
+    let within = State {
+        lets: lets + 1,
+        ..next
+    };
+    second_part(frames, within, v, body)
 }
 
 // The value of a node's first part is kept in its frame, and its second part is entered.
-fn second_part(frames: &mut [u64], s: State, part: u64) -> Turn
-    ensures { leaving result frames.new ≡ second_part frames.old s part }
+#[tactic(auto, unfolding(crate::specs::Values::second_part))]
+fn second_part(frames: &mut [u64], s: State, v: CodedValue, part: u64) -> Turn
+    ensures { leaving result frames.new ≡ second_part frames.old s v part }
 {
-    keep(frames, before(s.height), s.at, s.code);
-    Turn::Goes(focused(s, part, 0))
+    keep(frames, s.height.saturating_sub(1), v);
+    ControlFlow::Continue(State {
+        focus: Focus::Node(part),
+        ..s
+    })
 }

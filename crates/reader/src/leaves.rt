@@ -13,7 +13,7 @@ use crate::cursor::{
 };
 use calculus::{Fault, Operation, Refusal};
 use image::{Limited, read_target};
-use tables::{Task, head_number, put_row};
+use tables::{Head, Task, put_row};
 
 // The row of the node at `cursor`, behind the rows up to `end`: where reading stands then.
 pub fn write_row(
@@ -29,8 +29,14 @@ pub fn write_row(
     requires { is_refusal end ≡ false }
     ensures { filled result rows.new ≡ row_put around cursor end task slot left datum rows.old }
 {
-    let head = head_number(task, is_in_block(around), slot, left, nodes_of(cursor));
-    put_row(rows, rows_of(end), head, datum);
+    let head = Head {
+        task,
+        inside: is_in_block(around),
+        slot,
+        left,
+        node: nodes_of(cursor),
+    };
+    put_row(rows, rows_of(end), head.into(), datum);
     end + 1
 }
 

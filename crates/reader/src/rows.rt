@@ -10,7 +10,7 @@ use crate::cursor::{
 };
 use crate::nodes::read_node;
 use calculus::{Fault, Refusal};
-use tables::{Task, head_number, put_row};
+use tables::{Head, Task, put_row};
 
 // The expression that starts at `at` of the image, where the word types are those below `known`, int among them, and the structs those
 // below `structs`. It is read in the part of the image that starts there, and its places are carried back.
@@ -71,8 +71,14 @@ fn end_rows(rows: &mut [u64], at: usize, end: u64) -> ExprRead
         });
     }
     let count = rows_of(end);
-    let head = head_number(Task::Stop, false, 0, 0, 0);
-    put_row(rows, count, head, 0);
+    let head = Head {
+        task: Task::Stop,
+        inside: false,
+        slot: 0,
+        left: 0,
+        node: 0,
+    };
+    put_row(rows, count, head.into(), 0);
     ExprRead::Read {
         next: at + offset_of(end),
         nodes: nodes_of(end),

@@ -2,10 +2,8 @@
 // One byte more than an image may have is read, so that a longer input is told by its length.
 #![tactic(auto)]
 
-ghost use Rattle.std.specs.Prelude.{◌≤◌, length, IfOk};
-
+use input::read_full;
 use std::io;
-use std::io::Read;
 
 fn main(rt: HostRuntime) -> io::Result<()> {
     let mut image = [0u8; 16385];
@@ -15,19 +13,4 @@ fn main(rt: HostRuntime) -> io::Result<()> {
     let mut line = [0u8; 128];
     let length = answers::write_line(&mut line, answer);
     rt.write_all(&line[..length])
-}
-
-// Reads until `bytes` is full or the input ends, and answers how many bytes it put at the front of `bytes`.
-fn read_full(input: &mut impl Read, bytes: &mut [u8]) -> io::Result<usize>
-    ensures { IfOk result (λ n. n ≤ length bytes.new) }
-{
-    let mut done = 0;
-    while done < bytes.len() {
-        let read = input.read(&mut bytes[done..])?;
-        if read == 0 {
-            break;
-        }
-        done += read;
-    }
-    Ok(done)
 }

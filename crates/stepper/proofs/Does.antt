@@ -13,33 +13,35 @@ use Rattle.calculus.specs.Setting.{Setting, cell, size}
 use Rattle.calculus.specs.Steps.{Redex, blocked, halts, gives, malloc_redex, taken_from, zeroed}
 use Rattle.calculus.specs.declared.Halt.{Halt}
 use Rattle.tables.proofs.Held.{size_kind}
-use Rattle.stepper.specs.declared.StepHint.{StepHint}
+use Rattle.yields.specs.declared.Hint.{Hint}
 use Rattle.stepper.specs.declared.StepState.{StepState}
-use Rattle.stepper.specs.declared.StepTerms.{StepTerms}
+use Rattle.yields.specs.declared.Terms.{Terms}
 use Rattle.stepper.specs.declared.StepTurn.TheVariants.{Steps}
-use Rattle.stepper.specs.declared.StepYield.{StepYield}
-use Rattle.stepper.specs.declared.StepYield.TheVariants.{Gives}
-use Rattle.stepper.specs.States.{Changed, changed, room_hint, topped, hinted, counting, ends_more, ends_stuck, ends_halt, settled_by, given_on, settled_on}
+use Rattle.yields.specs.declared.Yield.{Yield}
+use Rattle.yields.specs.declared.Yield.TheVariants.{Gives}
+use Rattle.yields.specs.Malloc.{room_hint}
+use Rattle.yields.specs.Yields.{given_on}
+use Rattle.stepper.specs.States.{Changed, changed, topped, hinted, counting, ends_more, ends_stuck, ends_halt, settled_by, settled_on}
 use Rattle.stepper.specs.Malloc.{room_takes, room_by, room_sized, room_gives}
 use Rattle.stepper.proofs.Settled.{settled_alike, halt_alike}
-use Rattle.stepper.proofs.GivesAs.{HeapNext, GivesAs, as_blocked, as_halts, as_gives, OnTerms}
-use Rattle.stepper.proofs.Zeroed.{HintHolds, hint_after, found_as, taken_as, hint_as}
+use Rattle.yields.proofs.GivesAs.{HeapNext, GivesAs, as_blocked, as_halts, as_gives, OnTerms}
+use Rattle.yields.proofs.Zeroed.{HintHolds, hint_after, found_as, taken_as, hint_as}
 
-module _ {S : Setting} {T : StepTerms} {ws structs types : List ℕ} (L : OnTerms S T ws structs types) (H : Heap) where
+module _ {S : Setting} {T : Terms} {ws structs types : List ℕ} (L : OnTerms S T ws structs types) (H : Heap) where
   -- a value comes on top, a step later, unless the limit forbids it
   pub data Does (s : StepState) : Changed → Redex → Type 0 where
     does_blocked : Does s (changed (ends_stuck s) (lent H ws)) blocked
     does_halts : {h : Halt} → Does s (changed (ends_halt T.limit s h) (lent H ws)) (halts h)
-    does_gives : {m : Changed} {H' : Heap} {c : Cell} {r : StepHint} → (T.limit ≤ s.steps → m ≡ changed (ends_more s) (lent H ws))
+    does_gives : {m : Changed} {H' : Heap} {c : Cell} {r : Hint} → (T.limit ≤ s.steps → m ≡ changed (ends_more s) (lent H ws))
         → (s.steps < T.limit
         → m ≡ changed (Steps (counting (hinted (topped s c.value (packed c.kind)) r.size r.from))) (lent H' ws))
         → HeapNext H H' → HintHolds H' T.low r → Small c.kind → Does s m (gives H' c.value c.kind)
 
-  pub settled_does : {y : StepYield} {ws' : List ℕ} {d : Redex} (s : StepState) → HintHolds H T.low s.hint → GivesAs H ws ws' y d
+  pub settled_does : {y : Yield} {ws' : List ℕ} {d : Redex} (s : StepState) → HintHolds H T.low s.hint → GivesAs H ws ws' y d
       → Does s (settled_on T.limit s (lent H ws) (given_on y ws')) d
   unfolding settled_on
-  settled_does s k as_blocked = does_blocked
-  settled_does {ws' = ws'} s k (as_halts {h}) = rw (halt_alike T.limit s h (lent H ws) ws') (does_halts {h = h})
+  settled_does s k (as_blocked e) = does_blocked
+  settled_does {ws' = ws'} s k (as_halts {h} e) = rw (halt_alike T.limit s h (lent H ws) ws') (does_halts {h = h})
   settled_does {ws' = ws'} s k (as_gives {c} {H'} e n sm) =
       does_gives
       {m = settled_on T.limit s (lent H ws) (given_on (Gives c.value (packed c.kind)) ws')}
@@ -53,7 +55,7 @@ module _ {S : Setting} {T : StepTerms} {ws structs types : List ℕ} (L : OnTerm
       sm
 
   -- a node with one part leaves the heap as it is
-  pub one_does : {y : StepYield} {d : Redex} (s : StepState) → HintHolds H T.low s.hint → GivesAs H ws (lent H ws) y d
+  pub one_does : {y : Yield} {d : Redex} (s : StepState) → HintHolds H T.low s.hint → GivesAs H ws (lent H ws) y d
       → Does s (changed (settled_by T.limit s y) (lent H ws)) d
   one_does {y} s k m = rw (settled_alike T.limit s y (lent H ws)) (settled_does s k m)
 

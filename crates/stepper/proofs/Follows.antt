@@ -1,5 +1,6 @@
 -- The code's state stands for the model's, and a row does with it what the model's row does.
-use Rattle.std.proofs.Common.{◌≡◌, ℕ, suc, ◌-◌, ◌*◌, ◌/◌, ◌^◌, ◌<◌, ◌≤◌, Bool, false, eqb, leb, List, [], ◌∷◌, length, get_or, sym, refl, ap, ◌∙◌, add-one, arith, le-ltb, ne_eqb, le-leb}
+use Rattle.std.proofs.Common.{◌≡◌, ℕ, suc, ◌-◌, ◌*◌, ◌/◌, ◌^◌, ◌<◌, ◌≤◌, Bool, false, eqb, leb, List, [], ◌∷◌, length, get_or, sym, refl, ap, ◌∙◌}
+use Rattle.std.proofs.Common.{add-one, arith, le-ltb, ne_eqb, le-leb}
 use native.Mathlib.Decide.{dec_le}
 use lib.ListN.{get_or-eq_default}
 use borrow.Author.Tests.{lt-leb}
@@ -25,17 +26,19 @@ use Rattle.tables.specs.declared.Task.TheVariants as task
 use Rattle.tables.proofs.Held.{type_kind_lem, type_exact}
 use Rattle.tables.proofs.Operands.{one_task, OneOperands}
 use Rattle.stepper.specs.Moves.{standing, nought, Move, ended, stays, halting, makes, quiet, redex_move, work_move}
-use Rattle.stepper.specs.declared.StepHint.{StepHint}
+use Rattle.yields.specs.declared.Hint.{Hint}
 use Rattle.stepper.specs.declared.StepState.{StepState}
-use Rattle.stepper.specs.declared.StepTerms.{StepTerms}
+use Rattle.yields.specs.declared.Terms.{Terms}
 use Rattle.stepper.specs.declared.StepTurn.TheVariants.{Goes, Steps, Ends}
-use Rattle.stepper.specs.States.{Changed, Turned, turned_to, state_of, one_more, first_by}
+use Rattle.yields.specs.Malloc.{one_more}
+use Rattle.stepper.specs.States.{Changed, Turned, turned_to, state_of, first_by}
 use Rattle.stepper.specs.Stack.{pushed, fetched, allotted, applied, joined_row, bound_next, unbound_next, stopped_at, on_stack_of, on_heap_of, on_bound_of}
 use Rattle.stepper.specs.Stack.{beside_bound, task_turn}
 use Rattle.stepper.proofs.Listed.{Listed, listed_none, listed_more, listed_put, listed_at, listed_small}
 use Rattle.stepper.proofs.Fitting.{RowFits, fits_push, fits_fetch, fits_take, fits_hold}
-use Rattle.stepper.proofs.GivesAs.{HeapNext, heap_stays, OnTerms, one_as, act_as}
-use Rattle.stepper.proofs.Zeroed.{HintHolds}
+use Rattle.yields.proofs.GivesAs.{HeapNext, heap_stays, OnTerms, act_as}
+use Rattle.stepper.proofs.OnePart.{one_as}
+use Rattle.yields.proofs.Zeroed.{HintHolds}
 use Rattle.stepper.proofs.Does.{Does, does_blocked, does_halts, does_gives, settled_does, one_does, malloc_does}
 
 -- the first of the values, if there is one, and those below it in the lent stack
@@ -62,7 +65,7 @@ pub record Stands (rows stack bound : List ℕ) (steps p v c : ℕ) (st ρ : Lis
   pub within : p ≤ whole_rows rows
 
 -- ---- a row, after so many steps, comes to what the model's move is
-pub data Follows (T : StepTerms) (ws rows : List ℕ) (H : Heap) (high lets steps first : ℕ) (ht : StepHint) (r : Turned) : Move → Type 0 where
+pub data Follows (T : Terms) (ws rows : List ℕ) (H : Heap) (high lets steps first : ℕ) (ht : Hint) (r : Turned) : Move → Type 0 where
   f_ended : {c : Cell} {stack bound : List ℕ} → r ≡ turned_to (Ends (outcome_of (ends.Value c) steps first)) (lent H ws) stack bound
       → Follows T ws rows H high lets steps first ht r (ended c)
   f_stays : (b : Bool) {stack bound : List ℕ} → r ≡ turned_to (Ends (outcome_of ends.Stuck steps (first_by steps first b))) (lent H ws) stack bound
@@ -71,7 +74,7 @@ pub data Follows (T : StepTerms) (ws rows : List ℕ) (H : Heap) (high lets step
       → (T.limit ≤ steps → r ≡ turned_to (Ends (outcome_of ends.More steps first)) (lent H ws) stack bound)
       → (steps < T.limit → r ≡ turned_to (Ends (outcome_of (ends.Halted h) (one_more steps) (first_by steps first b))) (lent H ws) stack bound)
       → Follows T ws rows H high lets steps first ht r (halting h (inside_mode b))
-  f_makes : (b : Bool) {x : Bool} {p v c : ℕ} {st ρ : List Cell} {H' : Heap} {ht' : StepHint} {stack bound stack' bound' : List ℕ}
+  f_makes : (b : Bool) {x : Bool} {p v c : ℕ} {st ρ : List Cell} {H' : Heap} {ht' : Hint} {stack bound stack' bound' : List ℕ}
       → (T.limit ≤ steps → r ≡ turned_to (Ends (outcome_of ends.More steps first)) (lent H ws) stack bound)
       → (steps < T.limit
       → r ≡ turned_to (Steps (state_of p v c (length st) (length ρ) x (one_more steps) (first_by steps first b) ht')) (lent H' ws) stack' bound')
@@ -83,7 +86,7 @@ pub data Follows (T : StepTerms) (ws rows : List ℕ) (H : Heap) (high lets step
       → Stands rows stack' bound' steps p v c st ρ → Follows T ws rows H high lets steps first ht r (quiet (standing p st ρ))
 
 -- the innermost bound value is forgotten
-drop_follows : (S : Setting) (T : StepTerms) (ws rows stack bound : List ℕ) (H : Heap) (steps first : ℕ) (ht : StepHint) (b : Bool) (p v c : ℕ) (st : List Cell)
+drop_follows : (S : Setting) (T : Terms) (ws rows stack bound : List ℕ) (H : Heap) (steps first : ℕ) (ht : Hint) (b : Bool) (p v c : ℕ) (st : List Cell)
     {ρ : List Cell} → TopIs stack v c st → Listed bound ρ → steps ≤ p → p < whole_rows rows → whole_rows rows < 2 ^ 62
     → Follows T ws rows H (length stack) (length bound) steps first ht
     (turned_to (unbound_next (state_of p v c (length st) (length ρ) b steps first ht)) (lent H ws) stack bound) (work_move S H drop (inside_mode b) p st ρ)
@@ -98,11 +101,11 @@ drop_follows S T ws rows stack bound H steps first ht b p v c st t (listed_more 
     refl
     (record { top = t; bounds = e; slow = omega arith; within = i })
 
-module _ {S : Setting} {T : StepTerms} {ws structs types : List ℕ} (L : OnTerms S T ws structs types) (rows : List ℕ) (room : ℕ)
+module _ {S : Setting} {T : Terms} {ws structs types : List ℕ} (L : OnTerms S T ws structs types) (rows : List ℕ) (room : ℕ)
     (short : whole_rows rows < 2 ^ 62)
     (H : Heap) (hs : SmallHeap H) (hl : length H ≡ T.words) (stack bound : List ℕ) (stack_room : 2 * room ≤ length stack)
     (bound_room : 2 * room ≤ length bound)
-    (steps first : ℕ) (ht : StepHint) (hr : HintHolds H T.low ht) (b : Bool) (p : ℕ) (ρ : List Cell) (bounds : Listed bound ρ) (slow : steps ≤ p) where
+    (steps first : ℕ) (ht : Hint) (hr : HintHolds H T.low ht) (b : Bool) (p : ℕ) (ρ : List Cell) (bounds : Listed bound ρ) (slow : steps ≤ p) where
   abbrev Goal : Turned → Move → Type 0
   Goal = Follows T ws rows H (length stack) (length bound) steps first ht
 
@@ -198,7 +201,7 @@ module _ {S : Setting} {T : StepTerms} {ws structs types : List ℕ} (L : OnTerm
       rw (le-ltb (suc (suc (length st))) 2 (omega arith), two, w.value_is, w.code_is)
       (does_follows st stack
       (settled_does L H (state_of p d.value (packed d.kind) (suc (length st)) (length ρ) b steps first ht) hr
-      (act_as L H hs hl o (state_of p d.value (packed d.kind) (suc (length st)) (length ρ) b steps first ht) e d refl refl k k'))
+      (act_as L H hs hl o e d k k'))
       l refl i)
 
   hold_follows : {v c : ℕ} {st : List Cell} → TopIs stack v c st → length ρ < room → p < whole_rows rows
@@ -227,7 +230,8 @@ module _ {S : Setting} {T : StepTerms} {ws structs types : List ℕ} (L : OnTerm
       f_ended {c = d} {stack = stack} {bound = bound} (rw (ne_eqb (suc (length st)) 0 (omega arith), round_trip k))
 
   -- a row that does its task; only a row that stops may stand behind the last one
-  pub task_follows : {v c : ℕ} (st : List Cell) (t : Task) (slot datum : ℕ) → TopIs stack v c st → ((work_of types t slot datum ≡ stop → ⊥) → p < whole_rows rows)
+  pub task_follows : {v c : ℕ} (st : List Cell) (t : Task) (slot datum : ℕ) → TopIs stack v c st
+      → ((work_of types t slot datum ≡ stop → ⊥) → p < whole_rows rows)
       → RowFits room (length st) (length ρ) datum (work_of types t slot datum)
       → Goal (task_turn structs types T (lent H ws) stack bound (at v c st) t slot datum) (work_move S H (work_of types t slot datum) (inside_mode b) p st ρ)
   unfolding task_turn

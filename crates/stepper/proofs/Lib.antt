@@ -2,12 +2,8 @@
 pub mod Close
 pub mod Continuations
 pub mod Advances
-pub mod Others
 pub mod Settled
-pub mod Looks
-pub mod Onward
-pub mod GivesAs
-pub mod Zeroed
+pub mod OnePart
 pub mod Listed
 pub mod Fitting
 pub mod Does

@@ -11,29 +11,29 @@ use Rattle.tables.specs.Heads.{task_in, inside_in, slot_in}
 use Rattle.tables.specs.Rows.{whole_rows, head_at, datum_at, task_row_at}
 use Rattle.tables.proofs.Placed.{row_inside}
 use Rattle.stepper.specs.Moves.{Standing, standing, Move, quiet, past_move, standing_move, advance}
-use Rattle.stepper.specs.declared.StepHint.{StepHint}
+use Rattle.yields.specs.declared.Hint.{Hint}
 use Rattle.stepper.specs.declared.StepState.{StepState}
-use Rattle.stepper.specs.declared.StepTerms.{StepTerms}
+use Rattle.yields.specs.declared.Terms.{Terms}
 use Rattle.stepper.specs.States.{Turned, state_of}
 use Rattle.stepper.specs.Turns.{row_turn, after_quiet, advanced}
 use Rattle.stepper.proofs.Continuations.{Sim}
 use Rattle.stepper.proofs.Advances.{rows_of, MeetsStep, advances}
 use Rattle.stepper.proofs.Fitting.{sim_fits, sim_quiet}
-use Rattle.stepper.proofs.GivesAs.{OnTerms}
-use Rattle.stepper.proofs.Zeroed.{HintHolds}
+use Rattle.yields.proofs.GivesAs.{OnTerms}
+use Rattle.yields.proofs.Zeroed.{HintHolds}
 use Rattle.stepper.proofs.Follows.{Stands, Follows, f_ended, f_stays, f_halting, f_makes, f_quiet, task_follows}
 
 -- the lent memory of a machine over the heap H, with room for so many values on the stack and as many bound
-pub record Lends (T : StepTerms) (room : ℕ) (H : Heap) (ht : StepHint) (high lets : ℕ) : Type 0 where
+pub record Lends (T : Terms) (room : ℕ) (H : Heap) (ht : Hint) (high lets : ℕ) : Type 0 where
   pub heap_small : SmallHeap H
   pub heap_long : length H ≡ T.words
   pub hint_holds : HintHolds H T.low ht
   pub stack_room : 2 * room ≤ high
   pub bound_room : 2 * room ≤ lets
 
-module _ {S : Setting} {T : StepTerms} {ws structs types : List ℕ} (L : OnTerms S T ws structs types) (rows : List ℕ) (room : ℕ)
+module _ {S : Setting} {T : Terms} {ws structs types : List ℕ} (L : OnTerms S T ws structs types) (rows : List ℕ) (room : ℕ)
     (short : whole_rows rows < 2 ^ 62)
-    (H : Heap) (steps first : ℕ) (ht : StepHint) where
+    (H : Heap) (steps first : ℕ) (ht : Hint) where
   -- one row
   row_follows : {p v c : ℕ} {st ρ : List Cell} {e : Expr} (stack bound : List ℕ) (x : Bool) → Lends T room H ht (length stack) (length bound)
       → Stands rows stack bound steps p v c st ρ → Sim types rows room (standing p st ρ) e

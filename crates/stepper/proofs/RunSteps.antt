@@ -1,5 +1,6 @@
 -- The code runs the definition: what it answers and the heap that it leaves are those of the run by replacement.
-use Rattle.std.proofs.Common.{◌≡◌, ℕ, zero, suc, ◌+◌, ◌-◌, ◌*◌, ◌^◌, ◌<◌, ◌≤◌, Bool, true, false, List, [], length, refl, ap, ◌∙◌, add-zero, zero-add, add-one, arith, ne_eqb}
+use Rattle.std.proofs.Common.{◌≡◌, ℕ, zero, suc, ◌+◌, ◌-◌, ◌*◌, ◌^◌, ◌<◌, ◌≤◌, Bool, true, false, List, [], length, refl, ap, ◌∙◌, add-zero, zero-add}
+use Rattle.std.proofs.Common.{add-one, arith, ne_eqb}
 use Rattle.cells.specs.Heap.{Heap}
 use Rattle.cells.specs.Lent.{lent}
 use Rattle.cells.specs.declared.Cell.{Cell}
@@ -11,19 +12,20 @@ use Rattle.calculus.specs.declared.Outcome.{Outcome}
 use Rattle.image.specs.Shape.{height}
 use Rattle.tables.specs.Rows.{whole_rows, inside_mode}
 use Rattle.stepper.specs.Moves.{standing, Move}
-use Rattle.stepper.specs.declared.StepHint.{StepHint}
+use Rattle.yields.specs.declared.Hint.{Hint}
 use Rattle.stepper.specs.declared.StepState.{StepState}
-use Rattle.stepper.specs.declared.StepTerms.{StepTerms}
+use Rattle.yields.specs.declared.Terms.{Terms}
 use Rattle.stepper.specs.declared.StepTurn.TheVariants.{Steps}
-use Rattle.stepper.specs.States.{Turned, turned_to, state_of, one_more, first_by}
-use Rattle.stepper.specs.Malloc.{start_hint}
-use Rattle.stepper.specs.Turns.{RunEnd, run_end, after_step, drives, step_run}
+use Rattle.yields.specs.Malloc.{one_more}
+use Rattle.stepper.specs.States.{Turned, turned_to, state_of, first_by}
+use Rattle.yields.specs.Malloc.{start_hint}
+use Rattle.stepper.specs.Turns.{RunEnd, run_end, flow_of, after_step, drives, step_run}
 use Rattle.stepper.specs.Ready.{StepReady}
 use Rattle.stepper.specs.Entry.{RunAs, StepRan}
 use Rattle.stepper.proofs.Continuations.{Sim}
 use Rattle.stepper.proofs.Advances.{MeetsStep, m_ended, m_stays, m_halting, m_makes, starts}
 use Rattle.stepper.proofs.Listed.{listed_none}
-use Rattle.stepper.proofs.GivesAs.{OnTerms}
+use Rattle.yields.proofs.GivesAs.{OnTerms}
 use Rattle.stepper.proofs.Follows.{Stands, top_none, Follows, f_ended, f_stays, f_halting, f_makes, f_quiet}
 use Rattle.stepper.proofs.NextStep.{Lends, next_step}
 
@@ -72,21 +74,21 @@ step_first x s f b r l a =
       heap_long = a.heap_long;
     }
 
-module _ {S : Setting} {T : StepTerms} {ws structs types : List ℕ} (L : OnTerms S T ws structs types) (rows : List ℕ) (room : ℕ)
+module _ {S : Setting} {T : Terms} {ws structs types : List ℕ} (L : OnTerms S T ws structs types) (rows : List ℕ) (room : ℕ)
     (short : whole_rows rows < 2 ^ 62) where
   -- from such a state the code ends as the definition's run does
   record Runs (n : ℕ) : Type 0 where
-    from : (p v c : ℕ) (st ρ : List Cell) (e : Expr) (stack bound : List ℕ) (x : Bool) (H : Heap) (steps first : ℕ) (ht : StepHint)
+    from : (p v c : ℕ) (st ρ : List Cell) (e : Expr) (stack bound : List ℕ) (x : Bool) (H : Heap) (steps first : ℕ) (ht : Hint)
         → Lends T room H ht (length stack) (length bound) → Stands rows stack bound steps p v c st ρ → Sim types rows room (standing p st ρ) e
         → T.limit - steps ≡ n
         → Ends T.words ws (drives rows structs types T n (state_of p v c (length st) (length ρ) x steps first ht) (lent H ws) stack bound) steps first
         (run S n H e)
 
-  module _ (H : Heap) (long : length H ≡ T.words) (steps first : ℕ) (ht : StepHint) (few : steps < 2 ^ 63) where
+  module _ (H : Heap) (long : length H ≡ T.words) (steps first : ℕ) (ht : Hint) (few : steps < 2 ^ 63) where
     -- no step is left
     at_end : {r : Turned} {m : Move} {t : Step} (high lets : ℕ) (go : StepState → (ws stack bound : List ℕ) → RunEnd) → T.limit ≤ steps
         → Follows T ws rows H high lets steps first ht r m → MeetsStep types rows room m t
-        → Ends T.words ws (after_step r go) steps first (at_limit H t)
+        → Ends T.words ws (after_step (flow_of r) go) steps first (at_limit H t)
     at_end high lets go l (f_ended q) m_ended =
         rw q (record { outcome_same = rw (add-zero, ← first_none steps first); heap_same = refl; heap_long = long })
     at_end high lets go l (f_stays b q) m_stays =
@@ -100,7 +102,7 @@ module _ {S : Setting} {T : StepTerms} {ws structs types : List ℕ} (L : OnTerm
     -- n steps are left behind this one
     onwards : {r : Turned} {m : Move} {t : Step} (n high lets : ℕ) → T.limit - steps ≡ suc n → Runs n → 2 * room ≤ high → 2 * room ≤ lets
         → Follows T ws rows H high lets steps first ht r m → MeetsStep types rows room m t
-        → Ends T.words ws (after_step r (drives rows structs types T n)) steps first (onward H t (run S n))
+        → Ends T.words ws (after_step (flow_of r) (drives rows structs types T n)) steps first (onward H t (run S n))
     onwards n high lets e ih rs rb (f_ended q) m_ended =
         rw q (record { outcome_same = rw (add-zero, ← first_none steps first); heap_same = refl; heap_long = long })
     onwards n high lets e ih rs rb (f_stays b q) m_stays =
@@ -156,7 +158,7 @@ whole_start o = rw zero-add (ap (outcome_of o.end o.steps) (go o.first))
     go (suc f) = zero-add (suc f)
 
 -- where the lent numbers hold a script, the code runs it as the definition says; the rows are a slice's, and so not too many
-pub runs_script : {S : Setting} {T : StepTerms} {H : Heap} {e : Expr} {ws heap stack bound rows structs types : List ℕ} → whole_rows rows < 2 ^ 62
+pub runs_script : {S : Setting} {T : Terms} {H : Heap} {e : Expr} {ws heap stack bound rows structs types : List ℕ} → whole_rows rows < 2 ^ 62
     → StepReady S T H e ws heap stack bound rows structs types
     → RunAs T.words ws (run S T.limit H e) (step_run rows structs types T heap stack bound).outcome
     (step_run rows structs types T heap stack bound).heap
@@ -186,7 +188,7 @@ runs_script {S} {T} {H} {e} {ws} {heap} {stack} {bound} {rows} {structs} {types}
     (record { outcome = a.outcome_same ∙ whole_start _; heap_held = a.heap_same; heap_long = a.heap_long })
 
 -- so the model's steps keep the promise of `run`
-pub as_ran : {rows structs types heap stack bound heap' stack' bound' : List ℕ} {T : StepTerms} {o : Outcome} → whole_rows rows < 2 ^ 62
+pub as_ran : {rows structs types heap stack bound heap' stack' bound' : List ℕ} {T : Terms} {o : Outcome} → whole_rows rows < 2 ^ 62
     → run_end o heap' stack' bound' ≡ step_run rows structs types T heap stack bound
     → StepRan rows structs types T heap stack bound o heap' stack' bound'
 as_ran short q =

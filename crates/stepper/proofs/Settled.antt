@@ -7,15 +7,17 @@ use Rattle.calculus.specs.declared.Halt.{Halt}
 use Rattle.stepper.specs.declared.StepState.{StepState}
 use Rattle.stepper.specs.declared.StepTurn.{StepTurn}
 use Rattle.stepper.specs.declared.StepTurn.TheVariants.{Goes, Steps, Ends}
-use Rattle.stepper.specs.declared.StepYield.{StepYield}
-use Rattle.stepper.specs.States.{one_more, first_now, ends_more, ends_halt, settled_by, changed, given_on, heap_left, settled_on}
+use Rattle.yields.specs.declared.Yield.{Yield}
+use Rattle.yields.specs.Malloc.{one_more}
+use Rattle.yields.specs.Yields.{given_on}
+use Rattle.stepper.specs.States.{first_now, ends_more, ends_halt, settled_by, changed, heap_left, settled_on}
 
 heap_alike : (t : StepTurn) (ws : List ℕ) → heap_left t ws ws ≡ ws
 heap_alike (Goes s) ws = refl
 heap_alike (Steps s) ws = refl
 heap_alike (Ends o) ws = refl
 
-pub settled_alike : (limit : ℕ) (s : StepState) (y : StepYield) (ws : List ℕ) → changed (settled_by limit s y) ws ≡ settled_on limit s ws (given_on y ws)
+pub settled_alike : (limit : ℕ) (s : StepState) (y : Yield) (ws : List ℕ) → changed (settled_by limit s y) ws ≡ settled_on limit s ws (given_on y ws)
 unfolding settled_on
 settled_alike limit s y ws = rw (heap_alike (settled_by limit s y) ws)
 

@@ -7,7 +7,7 @@ use Rattle.calculus.specs.Setting.{Setting}
 use Rattle.calculus.specs.Expr.{Expr}
 use Rattle.calculus.specs.Run.{Result, run}
 use Rattle.calculus.specs.declared.Outcome.{Outcome}
-use Rattle.stepper.specs.declared.StepTerms.{StepTerms}
+use Rattle.yields.specs.declared.Terms.{Terms}
 use Rattle.stepper.specs.Turns.{run_end, step_run}
 use Rattle.stepper.specs.Ready.{StepReady}
 
@@ -18,7 +18,7 @@ pub record RunAs (words : ℕ) (ws : List ℕ) (d : Result) (o : Outcome) (heap 
   pub heap_long : length d.heap ≡ words
 
 -- what a run answers, o, and the lent memory that it leaves
-pub record StepRan (rows structs types : List ℕ) (T : StepTerms) (heap stack bound : List ℕ) (o : Outcome) (heap' stack' bound' : List ℕ) : Type 0 where
+pub record StepRan (rows structs types : List ℕ) (T : Terms) (heap stack bound : List ℕ) (o : Outcome) (heap' stack' bound' : List ℕ) : Type 0 where
   pub model : run_end o heap' stack' bound' ≡ step_run rows structs types T heap stack bound
   pub definition : (S : Setting) (H : Heap) (e : Expr) (ws : List ℕ) → StepReady S T H e ws heap stack bound rows structs types
       → RunAs T.words ws (run S T.limit H e) o heap'

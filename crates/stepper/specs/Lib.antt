@@ -4,7 +4,7 @@ pub mod Entry
 -- Models of the code: what each function does, with lists in the place of lent memory; and the machine over rows, with lists of cells.
 pub mod Moves
 pub mod States
-pub mod Yields
+pub mod Nodes
 pub mod Malloc
 pub mod Stack
 pub mod Turns

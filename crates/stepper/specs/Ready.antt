@@ -8,11 +8,11 @@ use Rattle.calculus.specs.Expr.{Expr}
 use Rattle.image.specs.Shape.{Scoped, height}
 use Rattle.tables.specs.Kinds.{HoldsSetting}
 use Rattle.tables.specs.Parts.{HoldsExpr}
-use Rattle.stepper.specs.declared.StepTerms.{StepTerms}
+use Rattle.yields.specs.declared.Terms.{Terms}
 
 -- The lent numbers hold the setting's tables, the rows of the expression e and, over the numbers ws that were lent, the heap H; the terms
 -- are the setting's, with addresses of the heap for malloc; and there is room to run e.
-pub record StepReady (S : Setting) (T : StepTerms) (H : Heap) (e : Expr) (ws heap stack bound rows structs types : List ℕ) : Type 0 where
+pub record StepReady (S : Setting) (T : Terms) (H : Heap) (e : Expr) (ws heap stack bound rows structs types : List ℕ) : Type 0 where
   pub setting_held : HoldsSetting S structs types
   pub rows_held : HoldsExpr types rows Checked 0 0 e
   pub width_is : S.width ≡ 32

@@ -8,12 +8,13 @@ use Rattle.tables.specs.declared.Task.{Task}
 use Rattle.tables.specs.declared.Task.TheVariants as task
 use Rattle.tables.specs.Kinds.{type_code_at}
 use Rattle.stepper.specs.declared.StepState.{StepState}
-use Rattle.stepper.specs.declared.StepTerms.{StepTerms}
+use Rattle.yields.specs.declared.Terms.{Terms}
 use Rattle.stepper.specs.declared.StepTurn.{StepTurn}
 use Rattle.stepper.specs.declared.StepTurn.TheVariants.{Goes, Steps}
 use Rattle.stepper.specs.States.{Changed, PlacedOn, Turned, changed, placed_on, turned_to, topped, resized, counting, ends_more, ends_stuck, ends_value}
 use Rattle.stepper.specs.States.{settled_by, settled_on}
-use Rattle.stepper.specs.Yields.{one_gives, act_gives}
+use Rattle.yields.specs.Yields.{act_gives}
+use Rattle.stepper.specs.Nodes.{one_gives}
 use Rattle.stepper.specs.Malloc.{room_gives}
 
 -- a value on top, and the one that was there below it: where there is no word for it the machine is stuck
@@ -32,13 +33,13 @@ fetched stack bound s out =
 abbrev pub beside_stack : (stack : List ℕ) → Changed → PlacedOn
 beside_stack stack m = placed_on m.turn m.table stack
 
-unfoldable pub allotted : (structs types : List ℕ) → StepTerms → (ws stack : List ℕ) → StepState → (code : ℕ) → PlacedOn
+unfoldable pub allotted : (structs types : List ℕ) → Terms → (ws stack : List ℕ) → StepState → (code : ℕ) → PlacedOn
 allotted structs types T ws stack s code =
     choose (nat_lt (whole_words stack) s.height) (λ _. placed_on (ends_stuck s) ws stack)
     (λ _. beside_stack (put_word stack s.height s.value s.code) (room_gives structs types T ws (resized s (s.height + 1) s.lets) code))
 
 -- a node with one part, and one with two
-unfoldable pub applied : (structs types : List ℕ) → StepTerms → List ℕ → StepState → Task → (slot datum : ℕ) → StepTurn
+unfoldable pub applied : (structs types : List ℕ) → Terms → List ℕ → StepState → Task → (slot datum : ℕ) → StepTurn
 applied structs types T ws s t slot datum =
     choose (s.height == 0) (λ _. ends_stuck s)
     (λ _. settled_by T.limit s (one_gives structs types T.words ws s.value s.code t slot datum))
@@ -46,11 +47,11 @@ applied structs types T ws s t slot datum =
 abbrev pub below_top : StepState → StepState
 below_top s = resized s (s.height - 1) s.lets
 
-unfoldable pub joined_row : StepTerms → (ws stack : List ℕ) → StepState → Act → Changed
+unfoldable pub joined_row : Terms → (ws stack : List ℕ) → StepState → Act → Changed
 joined_row T ws stack s o =
     choose (nat_lt s.height 2) (λ _. changed (ends_stuck s) ws)
     (λ _. settled_on T.limit (below_top s) ws
-    (act_gives T.words ws (below_top s) o (lent_number stack (s.height - 1) 0) (lent_number stack (s.height - 1) 1)))
+    (act_gives T.words ws o s.value s.code (lent_number stack (s.height - 1) 0) (lent_number stack (s.height - 1) 1)))
 
 -- the value on top is bound, a step; the innermost bound value is forgotten; the value on top is the whole expression's
 unfoldable pub bound_next : (limit : ℕ) (stack bound : List ℕ) → StepState → Changed
@@ -83,7 +84,7 @@ abbrev pub beside_bound : (bound : List ℕ) → PlacedOn → Turned
 beside_bound bound m = turned_to m.turn m.heap m.stack bound
 
 -- a row does its task, with its slot and its datum
-unfoldable pub task_turn : (structs types : List ℕ) → StepTerms → (ws stack bound : List ℕ) → StepState → Task → (slot datum : ℕ) → Turned
+unfoldable pub task_turn : (structs types : List ℕ) → Terms → (ws stack bound : List ℕ) → StepState → Task → (slot datum : ℕ) → Turned
 task_turn structs types T ws stack bound s task.Stop slot datum = turned_to (stopped_at s) ws stack bound
 task_turn structs types T ws stack bound s task.Literal slot datum = on_stack_of ws bound (pushed stack s datum (type_code_at types slot))
 task_turn structs types T ws stack bound s task.Variable slot datum = on_stack_of ws bound (fetched stack bound s slot)

@@ -1,5 +1,5 @@
 -- The state after a row, how a run ends, and what a row leaves of the lent memory.
-use Rattle.std.specs.Prelude.{ℕ, ◌+◌, ◌%◌, ◌^◌, Bool, List, ◌==◌, nat_le}
+use Rattle.std.specs.Prelude.{ℕ, Bool, List, ◌==◌, nat_le}
 use Rattle.choice.specs.Choice.{choose}
 use Rattle.cells.specs.Code.{unpacked}
 use Rattle.calculus.specs.Setting.{cell}
@@ -7,17 +7,16 @@ use Rattle.calculus.specs.Run.{outcome_of}
 use Rattle.calculus.specs.declared.Halt.{Halt}
 use Rattle.calculus.specs.declared.End.TheVariants as ends
 use Rattle.stepper.specs.declared.StepState.{StepState}
-use Rattle.stepper.specs.declared.StepHint.{StepHint}
-use Rattle.stepper.specs.declared.StepYield.{StepYield}
-use Rattle.stepper.specs.declared.StepYield.TheVariants.{Gives, Halts, Blocked}
+use Rattle.yields.specs.declared.Hint.{Hint}
+use Rattle.yields.specs.declared.Yield.{Yield}
+use Rattle.yields.specs.declared.Yield.TheVariants.{Gives, Halts, Blocked}
+use Rattle.yields.specs.Malloc.{one_more, room_hint}
+use Rattle.yields.specs.Yields.{Given}
 use Rattle.stepper.specs.declared.StepTurn.{StepTurn}
 use Rattle.stepper.specs.declared.StepTurn.TheVariants.{Goes, Steps, Ends}
 
 -- ---- states
-abbrev pub room_hint : (size from : ℕ) → StepHint
-room_hint size from = record { size = size; from = from }
-
-abbrev pub state_of : (row value code height lets : ℕ) → Bool → (steps first : ℕ) → StepHint → StepState
+abbrev pub state_of : (row value code height lets : ℕ) → Bool → (steps first : ℕ) → Hint → StepState
 state_of row value code height lets inside steps first h =
     record {
       row = row;
@@ -30,10 +29,6 @@ state_of row value code height lets inside steps first h =
       first = first;
       hint = h;
     }
-
--- one more, in 64 bits
-abbrev pub one_more : ℕ → ℕ
-one_more n = (n + 1) % 2 ^ 64
 
 -- another value on top, and the next row; so many values on the stack, and so many bound; whether the row that was looked at lies inside an
 -- unchecked block; another place to start to look for room
@@ -81,7 +76,7 @@ abbrev pub count_within : (limit : ℕ) → StepState → StepTurn
 count_within limit s = choose (nat_le limit s.steps) (λ _. ends_more s) (λ _. Steps (counting s))
 
 -- what a node gives is on top, a step later
-abbrev pub settled_by : (limit : ℕ) → StepState → StepYield → StepTurn
+abbrev pub settled_by : (limit : ℕ) → StepState → Yield → StepTurn
 settled_by limit s (Gives value code) = count_within limit (topped s value code)
 settled_by limit s (Halts h) = ends_halt limit s h
 settled_by limit s Blocked = ends_stuck s
@@ -110,14 +105,6 @@ placed_on t ws stack = record { turn = t; heap = ws; stack = stack }
 
 abbrev pub turned_to : StepTurn → (heap stack bound : List ℕ) → Turned
 turned_to t ws stack bound = record { turn = t; heap = ws; stack = stack; bound = bound }
-
--- what a node gives, and the heap that its step leaves
-pub record Given : Type 0 where
-  pub yield : StepYield
-  pub heap : List ℕ
-
-abbrev pub given_on : StepYield → (heap : List ℕ) → Given
-given_on y ws = record { yield = y; heap = ws }
 
 -- the heap is another one where the machine goes on, and as it was where the run ends
 abbrev pub heap_left : StepTurn → (ws ws' : List ℕ) → List ℕ

@@ -3,22 +3,23 @@
 // kind, so that nothing is taken apart and put together again on the way; a word of the heap is read and assigned as a cell.
 #![tactic(auto)]
 
-use calculus::{Halt, Outcome};
+use calculus::Outcome;
+use yields::{Hint, Terms};
 
-// On what terms a script is run: how many words the heap has, the lowest and the highest address that malloc may use, and how many steps
-// it may take.
+// A script in lent numbers: the rows of its expression, its structs and its word types; and on what terms it is run.
 #[derive(Clone, Copy)]
-pub struct StepTerms {
-    pub words: usize,
-    pub low: usize,
-    pub high: usize,
-    pub limit: u64,
+pub struct RowScript<'a> {
+    pub rows: &'a [u64],
+    pub structs: &'a [u64],
+    pub types: &'a [u64],
+    pub terms: Terms,
 }
 
-// Where the machine stands: the row that is next; the value on top of the stack with the code of its kind, where there is one; how many
-// values are on the stack, that one included, and how many are bound; whether the row that was looked at lies inside an unchecked block;
-// the steps taken, the number of the first unchecked one, 0 if there was none; and where malloc may start to look.
-#[derive(Clone, Copy)]
+// Where the machine stands: the row that is next; the value on top of the stack with the code of its kind; how many values are on the
+// stack, that one included, and how many are bound; whether the row that was looked at lies inside an unchecked block; the steps taken, the
+// number of the first unchecked one, 0 if there was none, as an outcome has it; and where malloc may start to look.
+// Value and code are no Option: on an empty stack a row puts them below its own value unasked, where nobody reads them.
+#[derive(Clone, Copy, Debug, PartialEq, Eq)]
 pub struct StepState {
     pub row: usize,
     pub value: u64,
@@ -28,26 +29,12 @@ pub struct StepState {
     pub inside: bool,
     pub steps: u64,
     pub first: u64,
-    pub hint: StepHint,
-}
-
-// Words are never freed: no run of `size` undefined words, or of more, starts below `from`.
-#[derive(Clone, Copy)]
-pub struct StepHint {
-    pub size: usize,
-    pub from: usize,
-}
-
-// What a node gives once its parts are values: a value with the code of its kind, a halt, or that no rule fits.
-#[derive(Clone, Copy)]
-pub enum StepYield {
-    Gives { value: u64, code: u64 },
-    Halts(Halt),
-    Blocked,
+    pub hint: Hint,
 }
 
 // What a row comes to: the machine goes on without a step, or after one; or the run ends.
-#[derive(Clone, Copy)]
+// It is no ControlFlow: that would have to tell Goes from Steps by one more enum inside.
+#[derive(Clone, Copy, Debug, PartialEq, Eq)]
 pub enum StepTurn {
     Goes(StepState),
     Steps(StepState),
@@ -55,9 +42,9 @@ pub enum StepTurn {
 }
 
 mod malloc;
+mod nodes;
 mod stack;
 mod states;
 mod turns;
-mod yields;
 
 pub use turns::{advance, at_start, run};

@@ -1,188 +1,147 @@
 // The state after a row, and how a run ends.
 ghost use Rattle.std.specs.Prelude.{◌≡◌};
+ghost use Rattle.calculus.specs.Run.{outcome_of};
 ghost use Rattle.stepper.specs.States as states;
 
-use crate::{StepHint, StepState, StepTurn, StepYield};
+use crate::{StepState, StepTurn};
 use calculus::{End, Halt, Outcome};
-use cells::{Cell, Kind};
+use cells::Cell;
+use yields::{Hint, Yield};
 
-// Another value on top, and the next row.
-pub fn topped(s: StepState, value: u64, code: u64) -> StepState
-    ensures { result ≡ states.topped s value code }
-{
-    let hint = s.hint;
-    // No row stands behind the last number, so this does not wrap there.
-    let row = std::num::wrapping_add_usize(s.row, 1);
-    StepState {
-        row,
-        value,
-        code,
-        height: s.height,
-        lets: s.lets,
-        inside: s.inside,
-        steps: s.steps,
-        first: s.first,
-        hint,
-    }
-}
-
-// So many values on the stack, and so many bound.
-pub fn sized(s: StepState, height: usize, lets: usize) -> StepState
-    ensures { result ≡ states.resized s height lets }
-{
-    let hint = s.hint;
-    StepState {
-        row: s.row,
-        value: s.value,
-        code: s.code,
-        height,
-        lets,
-        inside: s.inside,
-        steps: s.steps,
-        first: s.first,
-        hint,
-    }
-}
-
-// The row that was looked at lies inside an unchecked block, or not.
-pub fn looked(s: StepState, inside: bool) -> StepState
-    ensures { result ≡ states.looked s inside }
-{
-    let hint = s.hint;
-    StepState {
-        row: s.row,
-        value: s.value,
-        code: s.code,
-        height: s.height,
-        lets: s.lets,
-        inside,
-        steps: s.steps,
-        first: s.first,
-        hint,
-    }
-}
-
-// Another place for malloc to start to look.
-pub fn hinted(s: StepState, size: usize, from: usize) -> StepState
-    ensures { result ≡ states.hinted s size from }
-{
-    StepState {
-        row: s.row,
-        value: s.value,
-        code: s.code,
-        height: s.height,
-        lets: s.lets,
-        inside: s.inside,
-        steps: s.steps,
-        first: s.first,
-        hint: StepHint { size, from },
-    }
-}
-
-// One step more. Below the limit this does not wrap.
-pub fn counted(s: StepState) -> StepState
-    ensures { result ≡ states.counting s }
-{
-    let hint = s.hint;
-    let steps = std::num::wrapping_add_u64(s.steps, 1);
-    StepState {
-        row: s.row,
-        value: s.value,
-        code: s.code,
-        height: s.height,
-        lets: s.lets,
-        inside: s.inside,
-        steps,
-        first: first(s),
-        hint,
-    }
-}
-
-// The number of the first unchecked step, where the next one is counted too.
-fn first(s: StepState) -> u64
-    ensures { result ≡ states.first_now s }
-{
-    if s.first == 0 {
-        if s.inside {
-            std::num::wrapping_add_u64(s.steps, 1)
-        } else {
-            0
+impl StepState {
+    // Another value on top, and the next row.
+    pub fn topped(self, value: u64, code: u64) -> StepState
+        ensures { result ≡ states.topped self value code }
+    {
+        StepState {
+            // No row stands behind the last number, so this does not wrap there.
+            row: self.row.wrapping_add(1),
+            value,
+            code,
+            ..self
         }
-    } else {
-        s.first
     }
-}
 
-// What a node gives is on top, a step later.
-pub fn settle(s: StepState, limit: u64, given: StepYield) -> StepTurn
-    ensures { result ≡ states.settled_by limit s given }
-{
-    match given {
-        StepYield::Gives { value, code } => count_within(topped(s, value, code), limit),
-        StepYield::Halts(why) => halt(s, limit, why),
-        StepYield::Blocked => stuck(s),
+    // So many values on the stack, and so many bound.
+    pub fn sized(self, height: usize, lets: usize) -> StepState
+        ensures { result ≡ states.resized self height lets }
+    {
+        StepState {
+            height,
+            lets,
+            ..self
+        }
     }
-}
 
-// A step, or More where the limit forbids it.
-pub fn count_within(s: StepState, limit: u64) -> StepTurn
-    ensures { result ≡ states.count_within limit s }
-{
-    if limit <= s.steps {
-        more(s)
-    } else {
-        StepTurn::Steps(counted(s))
+    // The row that was looked at lies inside an unchecked block, or not.
+    pub fn looked(self, inside: bool) -> StepState
+        ensures { result ≡ states.looked self inside }
+    {
+        StepState { inside, ..self }
     }
-}
 
-// The whole expression is the value on top.
-pub fn done(s: StepState) -> StepTurn
-    ensures { result ≡ states.ends_value s }
-{
-    let cell = Cell {
-        value: s.value,
-        kind: Kind::from(s.code),
-    };
-    StepTurn::Ends(Outcome {
-        end: End::Value(cell),
-        steps: s.steps,
-        first: s.first,
-    })
-}
-
-// "Being Stuck is not" a step, and is told at the limit.
-pub fn stuck(s: StepState) -> StepTurn
-    ensures { result ≡ states.ends_stuck s }
-{
-    StepTurn::Ends(Outcome {
-        end: End::Stuck,
-        steps: s.steps,
-        first: first(s),
-    })
-}
-
-// "A halt is itself a step."
-pub fn halt(s: StepState, limit: u64, why: Halt) -> StepTurn
-    ensures { result ≡ states.ends_halt limit s why }
-{
-    if limit <= s.steps {
-        return more(s);
+    // Another place for malloc to start to look.
+    pub fn hinted(self, size: usize, from: usize) -> StepState
+        ensures { result ≡ states.hinted self size from }
+    {
+        StepState {
+            hint: Hint { size, from },
+            ..self
+        }
     }
-    let taken = counted(s);
-    StepTurn::Ends(Outcome {
-        end: End::Halted(why),
-        steps: taken.steps,
-        first: taken.first,
-    })
-}
 
-// The limit forbids the next step.
-pub fn more(s: StepState) -> StepTurn
-    ensures { result ≡ states.ends_more s }
-{
-    StepTurn::Ends(Outcome {
-        end: End::More,
-        steps: s.steps,
-        first: s.first,
-    })
+    // One step more. Below the limit this does not wrap.
+    pub fn counted(self) -> StepState
+        ensures { result ≡ states.counting self }
+    {
+        StepState {
+            steps: self.steps.wrapping_add(1),
+            first: self.first_now(),
+            ..self
+        }
+    }
+
+    // The number of the first unchecked step, where the next one is counted too.
+    fn first_now(self) -> u64
+        ensures { result ≡ states.first_now self }
+    {
+        if self.first == 0 && self.inside {
+            self.steps.wrapping_add(1)
+        } else {
+            self.first
+        }
+    }
+
+    // What a node gives is on top, a step later.
+    pub fn settle(self, limit: u64, given: Yield) -> StepTurn
+        ensures { result ≡ states.settled_by limit self given }
+    {
+        match given {
+            Yield::Gives { value, code } => self.topped(value, code).count_within(limit),
+            Yield::Halts(why) => self.halt(limit, why),
+            Yield::Blocked => self.stuck(),
+        }
+    }
+
+    // A step, or More where the limit forbids it.
+    pub fn count_within(self, limit: u64) -> StepTurn
+        ensures { result ≡ states.count_within limit self }
+    {
+        if limit <= self.steps {
+            self.more()
+        } else {
+            StepTurn::Steps(self.counted())
+        }
+    }
+
+    // The whole expression is the value on top.
+    pub fn done(self) -> StepTurn
+        ensures { result ≡ states.ends_value self }
+    {
+        let cell = Cell {
+            value: self.value,
+            kind: self.code.into(),
+        };
+        StepTurn::Ends(self.outcome(End::Value(cell)))
+    }
+
+    // "Being Stuck is not" a step, and is told at the limit.
+    pub fn stuck(self) -> StepTurn
+        ensures { result ≡ states.ends_stuck self }
+    {
+        StepTurn::Ends(Outcome {
+            end: End::Stuck,
+            steps: self.steps,
+            first: self.first_now(),
+        })
+    }
+
+    // "A halt is itself a step."
+    pub fn halt(self, limit: u64, why: Halt) -> StepTurn
+        ensures { result ≡ states.ends_halt limit self why }
+    {
+        if limit <= self.steps {
+            self.more()
+        } else {
+            StepTurn::Ends(self.counted().outcome(End::Halted(why)))
+        }
+    }
+
+    // The limit forbids the next step.
+    pub fn more(self) -> StepTurn
+        ensures { result ≡ states.ends_more self }
+    {
+        StepTurn::Ends(self.outcome(End::More))
+    }
+
+    // The run ends like this, after the steps counted.
+    pub fn outcome(self, end: End) -> Outcome
+        ensures { result ≡ outcome_of end self.steps self.first }
+    {
+        Outcome {
+            end,
+            steps: self.steps,
+            first: self.first,
+        }
+    }
 }

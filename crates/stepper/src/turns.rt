@@ -1,51 +1,35 @@
 // A row, the rows up to and including the next step, and the run.
 ghost use Rattle.std.specs.Prelude.{◌≡◌};
 ghost use Rattle.tables.specs.Rows.{whole_rows};
-ghost use Rattle.stepper.specs.Turns.{row_turn, advanced, start_state};
+ghost use Rattle.stepper.specs.Turns.{row_turn, advanced, advanced_to, flow_of, start_state};
 ghost use Rattle.stepper.specs.Entry.{StepRan};
 ghost use Rattle.stepper.specs.States.{turned_to};
 
 use crate::stack::{allot, apply, bind, fetch, join, push, stop, unbind};
-use crate::states::looked;
-use crate::{StepHint, StepState, StepTerms, StepTurn};
+use crate::{RowScript, StepState, StepTurn};
 use calculus::{End, Outcome};
+use std::ops::ControlFlow;
 use tables::{Task, datum_at, head_at, is_inside, slot_of, task_of, type_code};
+use yields::{Hint, Terms};
 
-// Runs the expression of the rows over the heap, on these terms.
-pub fn run(
-    heap: &mut [u64],
-    stack: &mut [u64],
-    bound: &mut [u64],
-    rows: &[u64],
-    structs: &[u64],
-    types: &[u64],
-    terms: StepTerms,
-) -> Outcome
-    ensures { StepRan rows.now structs.now types.now terms heap.old stack.old bound.old result heap.new stack.new bound.new }
+// Runs the script over the heap, on its terms.
+pub fn run(heap: &mut [u64], stack: &mut [u64], bound: &mut [u64], script: &RowScript) -> Outcome
+    ensures { StepRan script.now.rows.now script.now.structs.now script.now.types.now script.now.terms heap.old stack.old bound.old
+        result heap.new stack.new bound.new }
 {
-    let mut s = at_start(terms);
-    loop {
-        match advance(heap, stack, bound, rows, structs, types, terms, s) {
-            StepTurn::Steps(next) => {
-                s = next;
-            }
-            StepTurn::Goes(next) => {
-                // There are not so many rows without a step.
-                return Outcome {
-                    end: End::Stuck,
-                    steps: next.steps,
-                    first: next.first,
-                };
-            }
-            StepTurn::Ends(outcome) => {
-                return outcome;
-            }
+    let mut s = at_start(script.terms);
+    // Each of these takes a step but the last, which the limit ends.
+    for _ in 0..=script.terms.limit {
+        match advance(heap, stack, bound, script, s) {
+            ControlFlow::Continue(next) => s = next,
+            ControlFlow::Break(outcome) => return outcome,
         }
     }
+    s.outcome(End::Stuck)
 }
 
 // Where a run starts.
-pub fn at_start(terms: StepTerms) -> StepState
+pub fn at_start(terms: Terms) -> StepState
     ensures { result ≡ start_state terms }
 {
     StepState {
@@ -57,7 +41,7 @@ pub fn at_start(terms: StepTerms) -> StepState
         inside: false,
         steps: 0,
         first: 0,
-        hint: StepHint {
+        hint: Hint {
             size: 0,
             from: terms.low,
         },
@@ -69,61 +53,50 @@ pub fn advance(
     heap: &mut [u64],
     stack: &mut [u64],
     bound: &mut [u64],
-    rows: &[u64],
-    structs: &[u64],
-    types: &[u64],
-    terms: StepTerms,
+    script: &RowScript,
     s: StepState,
-) -> StepTurn
-    ensures { turned_to result heap.new stack.new bound.new
-        ≡ advanced rows.now structs.now types.now terms (whole_rows rows.now) s heap.old stack.old bound.old }
+) -> ControlFlow<Outcome, StepState>
+    ensures { advanced_to result heap.new stack.new bound.new
+        ≡ flow_of (advanced script.now.rows.now script.now.structs.now script.now.types.now script.now.terms (whole_rows script.now.rows.now)
+        s heap.old stack.old bound.old) }
 {
     let mut now = s;
-    // Rows without a step go forward, so that there are no more of them than rows.
-    let mut left = rows.len() / 2;
-    while left > 0 {
-        match turn(heap, stack, bound, rows, structs, types, terms, now) {
-            StepTurn::Goes(next) => {
-                now = next;
-            }
-            StepTurn::Steps(next) => {
-                return StepTurn::Steps(next);
-            }
-            StepTurn::Ends(outcome) => {
-                return StepTurn::Ends(outcome);
-            }
+    // Rows without a step go forward, so that there are no more of them than rows, and behind them a row that stops.
+    for _ in 0..script.rows.len() / 2 + 1 {
+        match turn(heap, stack, bound, script, now) {
+            StepTurn::Goes(next) => now = next,
+            StepTurn::Steps(next) => return ControlFlow::Continue(next),
+            StepTurn::Ends(outcome) => return ControlFlow::Break(outcome),
         }
-        left -= 1;
     }
-    turn(heap, stack, bound, rows, structs, types, terms, now)
+    ControlFlow::Break(now.outcome(End::Stuck))
 }
 
 // One row.
+#[tactic(auto, unfolding(crate::specs::Turns::row_turn, crate::specs::Stack::task_turn))]
 fn turn(
     heap: &mut [u64],
     stack: &mut [u64],
     bound: &mut [u64],
-    rows: &[u64],
-    structs: &[u64],
-    types: &[u64],
-    terms: StepTerms,
+    script: &RowScript,
     from: StepState,
 ) -> StepTurn
-    ensures { turned_to result heap.new stack.new bound.new ≡ row_turn rows.now structs.now types.now terms heap.old stack.old bound.old from }
+    ensures { turned_to result heap.new stack.new bound.new
+        ≡ row_turn script.now.rows.now script.now.structs.now script.now.types.now script.now.terms heap.old stack.old bound.old from }
 {
-    let head = head_at(rows, from.row);
-    let datum = datum_at(rows, from.row);
+    let head = head_at(script.rows, from.row);
+    let datum = datum_at(script.rows, from.row);
     let slot = slot_of(head);
-    let s = looked(from, is_inside(head));
+    let s = from.looked(is_inside(head));
     let task = task_of(head);
     match task {
-        Task::Literal => push(stack, s, datum, type_code(types, slot)),
+        Task::Literal => push(stack, s, datum, type_code(script.types, slot)),
         Task::Variable => fetch(stack, bound, s, slot),
-        Task::Malloc => allot(heap, stack, structs, types, terms, s, datum),
-        Task::Acts(o) => join(heap, stack, terms, s, o),
-        Task::Bind => bind(bound, stack, terms.limit, s),
+        Task::Malloc => allot(heap, stack, script, s, datum),
+        Task::Acts(o) => join(heap, stack, script.terms, s, o),
+        Task::Bind => bind(bound, stack, script.terms.limit, s),
         Task::Unbind => unbind(s),
         Task::Stop => stop(s),
-        _ => apply(heap, structs, types, terms, s, task, slot, datum),
+        _ => apply(heap, script, s, task, slot, datum),
     }
 }

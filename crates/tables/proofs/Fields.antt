@@ -6,7 +6,7 @@ use native.Mathlib.Omega.{arith}
 use lib.Dec.{eqb}
 use lib.ListN.{length, get_or, get_or-eq_default}
 use Rattle.calculus.specs.declared.Act.TheVariants.{Assign, Sum}
-use Rattle.tables.specs.Heads.{tasks, task_number, inside_bit, head_number, task_in, inside_in, slot_in, left_in, node_in}
+use Rattle.tables.specs.Heads.{tasks, task_number, inside_bit, head_number, task_with, task_in, inside_in, slot_in, left_in, node_in}
 use Rattle.tables.specs.declared.Task.{Task}
 use Rattle.tables.specs.declared.Task.TheVariants.{Stop, Literal, Variable, Malloc, Unchecked, Cast, Read, Field, Acts, Bind, Unbind}
 
@@ -26,7 +26,7 @@ task_back (Acts Sum) = refl
 task_back Bind = refl
 task_back Unbind = refl
 
-task_below : (t : Task) → task_number t < 32
+pub task_below : (t : Task) → task_number t < 32
 task_below Stop = omega arith
 task_below Literal = omega arith
 task_below Variable = omega arith
@@ -49,7 +49,7 @@ bit_back true = refl
 bit_back false = refl
 
 -- the number is none of those below k, told one after another, as the last arm of a match has it
-abbrev NoneBelow : (number k : ℕ) → Type 0
+abbrev pub NoneBelow : (number k : ℕ) → Type 0
 NoneBelow number zero = Unit {0}
 NoneBelow number (suc k) = NoneBelow number k × (number ≡ k → ⊥)
 
@@ -58,9 +58,8 @@ none_below number zero o = omega arith
 none_below number (suc k) (o, n) = let l : k ≤ number = none_below number k o in omega (arith, l, n)
 
 -- a number that no task has
-pub no_task : (head : ℕ) → NoneBelow (head % 32) (length tasks) → task_in head ≡ Stop
-unfolding task_in
-no_task head o = get_or-eq_default tasks Stop {n = head % 32} (none_below (head % 32) (length tasks) o)
+pub no_task : (number : ℕ) → NoneBelow number (length tasks) → task_with number ≡ Stop
+no_task number o = get_or-eq_default tasks Stop {n = number} (none_below number (length tasks) o)
 
 -- ---- a sum of five numbers that fit
 record Apart (head task inside slot left node : ℕ) : Type 0 where

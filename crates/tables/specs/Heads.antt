@@ -38,9 +38,13 @@ unfoldable pub head_number : Task → (inside : Bool) → (slot left node : ℕ)
 head_number task inside slot left node =
     task_number task + 32 * inside_bit inside + 64 * (slot % 512) + 32768 * (left % 8192) + 268435456 * (node % 4096)
 
--- the fields of a head; a number that no task has is Stop's, as 0 is
+-- the task with a number; a number that no task has is Stop's, as 0 is
+abbrev pub task_with : (number : ℕ) → Task
+task_with number = get_or tasks number Stop
+
+-- the fields of a head
 unfoldable pub task_in : (head : ℕ) → Task
-task_in head = get_or tasks (head % 32) Stop
+task_in head = task_with (head % 32)
 
 unfoldable pub inside_in : (head : ℕ) → Bool
 inside_in head = eqb (head / 32 % 2) 1

@@ -24,6 +24,10 @@ head_at rows p = choose (ltb p (whole_rows rows)) (λ _. get_or rows (2 * p) 0) 
 unfoldable pub datum_at : (rows : List ℕ) (p : ℕ) → ℕ
 datum_at rows p = choose (ltb p (whole_rows rows)) (λ _. get_or rows (2 * p + 1) 0) (λ _. 0)
 
+-- number j of row p, its head or its datum
+abbrev pub row_number : (rows : List ℕ) (p j : ℕ) → ℕ
+row_number rows p j = choose (ltb p (whole_rows rows)) (λ _. get_or rows (2 * p + j) 0) (λ _. 0)
+
 -- the numbers after row p was given a head and a datum; no row, no change
 unfoldable pub put_row : (rows : List ℕ) (p head datum : ℕ) → List ℕ
 put_row rows p head datum = choose (ltb p (whole_rows rows)) (λ _. set (set rows (2 * p) head) (2 * p + 1) datum) (λ _. rows)

@@ -8,7 +8,7 @@ use borrow.Author.Tests.{lt-ltb, le-ltb}
 use Rattle.codlinbell.specs.Answered.{answering, answered}
 use Rattle.answers.specs.Out.{Numbered, numbered, out_numbers}
 use Rattle.codlinbell.specs.Hosted.{Hosted, hosted}
-use Rattle.answers.specs.declared.Answer.{Answer}
+use Rattle.answers.specs.Answer.{Answer}
 use Rattle.codlinbell.proofs.host.codlinbell_answer.Goals as goal
 
 abbrev host : Bool → List ℕ → List ℕ → Hosted

@@ -1,21 +1,10 @@
--- `machine::turns::run` makes the transitions of `driven`. The loop's invariant is `Driving`: what is left to be done gives what the
--- whole gives, and there are fewer steps than transitions. The measure is how many transitions are left. Assumes nothing.
-use Rattle.std.proofs.Common.{◌≡◌, ℕ, ◌+◌, ◌^◌, ◌<◌, ◌≤◌, List, length}
-use Rattle.machine.specs.declared.State.{State}
-use Rattle.machine.specs.declared.Terms.{Terms}
+-- `machine::turns::run` makes the transitions of `driven`. The loop's invariant: what is left to be done gives what the whole gives.
+-- Assumes nothing.
+use Rattle.std.proofs.Common.{◌≡◌, ◌-◌, length}
 use Rattle.machine.specs.Turns.{drive, driven}
 use Rattle.machine.proofs.turns.run.Given as goal
 
-pub record Driving (heap₀ frames₀ bound₀ nodes structs types : List ℕ) (T : Terms) (heap frames bound : List ℕ) (s : State) (ticks : ℕ) : Type 0 where
-  pub same : driven nodes structs types T heap₀ frames₀ bound₀ ≡ drive nodes structs types T ticks s heap frames bound
-  pub heap_long : length heap ≡ length heap₀
-  pub frames_long : length frames ≡ length frames₀
-  pub bound_long : length bound ≡ length bound₀
-  pub few : s.steps + ticks ≤ length nodes
-  pub short : length nodes < 2 ^ 62
-
-abbrev pub invariant-loop-ticks : goal.invariant-loop-ticks
-invariant-loop-ticks l = Driving l.initial.heap l.initial.frames l.initial.bound l.nodes l.structs l.types l.terms l.heap l.frames l.bound l.s l.ticks
-
-abbrev pub decreases-loop-ticks : goal.decreases-loop-ticks
-decreases-loop-ticks l = l.ticks
+abbrev pub invariant-loop : goal.invariant-loop
+invariant-loop l =
+    driven l.nodes l.structs l.types l.fn.terms l.initial.heap l.initial.frames l.initial.bound
+    ≡ drive l.nodes l.structs l.types l.fn.terms (length l.nodes - l.counter) l.s l.heap l.frames l.bound

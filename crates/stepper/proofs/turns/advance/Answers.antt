@@ -1,62 +1,51 @@
 -- The goals of `stepper::turns::advance` that the check leaves.
-use Rattle.std.proofs.Common.{◌≡◌, ℕ, suc, ◌-◌, ◌<◌, ◌≤◌, List, length, sym, ◌∙◌, arith}
+use Rattle.std.proofs.Common.{◌≡◌, ℕ, zero, suc, ◌+◌, ◌-◌, ◌<◌, List, sym, ap, ◌∙◌, arith}
 use Rattle.calculus.specs.declared.Outcome.{Outcome}
-use Rattle.tables.specs.Rows.{whole_rows}
+use Rattle.yields.specs.declared.Terms.{Terms}
 use Rattle.stepper.specs.declared.StepState.{StepState}
-use Rattle.stepper.specs.declared.StepTerms.{StepTerms}
 use Rattle.stepper.specs.declared.StepTurn.{StepTurn}
 use Rattle.stepper.specs.declared.StepTurn.TheVariants.{Goes, Steps, Ends}
-use Rattle.stepper.specs.States.{turned_to}
-use Rattle.stepper.specs.Turns.{row_turn, after_quiet, advanced}
+use Rattle.stepper.specs.States.{Turned, turned_to}
+use Rattle.stepper.specs.Turns.{row_turn, advanced, flow_of}
 use Rattle.stepper.proofs.turns.advance.Invariants.{Going}
 use Rattle.stepper.proofs.turns.advance.Goals as goal
 
-module _ {heap₀ stack₀ bound₀ rows structs types : List ℕ} {T : StepTerms} {s₀ : StepState} {heap stack bound : List ℕ} {s : StepState} {left : ℕ}
-    (m : Going heap₀ stack₀ bound₀ rows structs types T s₀ heap stack bound s left) where
-  -- where a row is left, the rest is that row and then what follows
-  opened : 0 < left
-      → advanced rows structs types T (whole_rows rows) s₀ heap₀ stack₀ bound₀
-      ≡ after_quiet (row_turn rows structs types T heap stack bound s) (advanced rows structs types T (left - 1))
+module _ (rows structs types : List ℕ) (T : Terms) (heap stack bound : List ℕ) (s : StepState) {r : StepTurn} {heap' stack' bound' : List ℕ}
+    (e : turned_to r heap' stack' bound' ≡ row_turn rows structs types T heap stack bound s) where
+  -- a row with a step, or an end, is all; one without is followed by the rest
+  steps : {s' : StepState} (k : ℕ) → r ≡ Steps s' → advanced rows structs types T k s heap stack bound ≡ turned_to (Steps s') heap' stack' bound'
   unfolding advanced
-  opened h = let k : left ≡ suc (left - 1) = omega arith in rw k at m.same
+  steps zero z = rw (← e, z)
+  steps (suc k) z = rw (← e, z)
 
-  stepped : {heap' stack' bound' : List ℕ} {r : StepTurn} {s' : StepState} → 0 < left
-      → turned_to r heap' stack' bound' ≡ row_turn rows structs types T heap stack bound s → r ≡ Steps s'
-      → turned_to (Steps s') heap' stack' bound' ≡ advanced rows structs types T (whole_rows rows) s₀ heap₀ stack₀ bound₀
-  stepped h e z = sym (opened h ∙ rw (← e, z))
-
-  ended : {heap' stack' bound' : List ℕ} {r : StepTurn} {o : Outcome} → 0 < left
-      → turned_to r heap' stack' bound' ≡ row_turn rows structs types T heap stack bound s → r ≡ Ends o
-      → turned_to (Ends o) heap' stack' bound' ≡ advanced rows structs types T (whole_rows rows) s₀ heap₀ stack₀ bound₀
-  ended h e z = sym (opened h ∙ rw (← e, z))
-
-  last : {heap' stack' bound' : List ℕ} {r : StepTurn} → left ≤ 0 → turned_to r heap' stack' bound' ≡ row_turn rows structs types T heap stack bound s
-      → turned_to r heap' stack' bound' ≡ advanced rows structs types T (whole_rows rows) s₀ heap₀ stack₀ bound₀
+  ends : {o : Outcome} (k : ℕ) → r ≡ Ends o → advanced rows structs types T k s heap stack bound ≡ turned_to (Ends o) heap' stack' bound'
   unfolding advanced
-  last h e = let k : left ≡ 0 = omega arith in e ∙ sym (rw k at m.same)
+  ends zero z = rw (← e, z)
+  ends (suc k) z = rw (← e, z)
+
+  last : {s' : StepState} → r ≡ Goes s' → advanced rows structs types T 0 s heap stack bound ≡ turned_to (Goes s') heap' stack' bound'
+  unfolding advanced
+  last z = rw (← e, z)
+
+  quiet : {s' : StepState} (k : ℕ) → r ≡ Goes s'
+      → advanced rows structs types T (suc k) s heap stack bound ≡ advanced rows structs types T k s' heap' stack' bound'
+  unfolding advanced
+  quiet k z = rw (← e, z)
 
   -- a row without a step keeps the invariant
-  goes_on : {heap' stack' bound' : List ℕ} {r : StepTurn} {s' : StepState} → 0 < left
-      → turned_to r heap' stack' bound' ≡ row_turn rows structs types T heap stack bound s → r ≡ Goes s'
-      → length heap' ≡ length heap → length stack' ≡ length stack → length bound' ≡ length bound
-      → Going heap₀ stack₀ bound₀ rows structs types T s₀ heap' stack' bound' s' (left - 1)
-  goes_on h e z lh ls lb =
+  goes_on : {whole : Turned} {n i : ℕ} {s' : StepState} → Going whole rows structs types T n i heap stack bound s → i < n + 1 → r ≡ Goes s'
+      → Going whole rows structs types T n (i + 1) heap' stack' bound' s'
+  goes_on {n = n} {i = i} m l z =
       record {
-        same = opened h ∙ rw (← e, z);
-        heap_long = lh ∙ m.heap_long;
-        stack_long = ls ∙ m.stack_long;
-        bound_long = lb ∙ m.bound_long;
+        again = λ h. let k : n - i ≡ suc (n - (i + 1)) = omega arith in (rw k at (m.again (omega arith))) ∙ quiet (n - (i + 1)) z;
+        spent = λ h. let k : n - i ≡ 0 = omega arith in ap flow_of ((rw k at (m.again (omega arith))) ∙ last z);
       }
 
 pub returns-in-Steps : goal.returns-in-Steps
-returns-in-Steps c = stepped c.loop-left.invariant c.loop-left-test.true c.turn.ensures c.in-Steps.is
+returns-in-Steps c = sym (ap flow_of (c.loop.invariant.again (omega arith) ∙ steps _ _ _ _ _ _ _ _ c.turn.ensures _ c.in-Steps.is))
 
 pub returns-in-Ends : goal.returns-in-Ends
-returns-in-Ends c = ended c.loop-left.invariant c.loop-left-test.true c.turn.ensures c.in-Ends.is
+returns-in-Ends c = sym (ap flow_of (c.loop.invariant.again (omega arith) ∙ ends _ _ _ _ _ _ _ _ c.turn.ensures _ c.in-Ends.is))
 
-pub loop-left-preserved : goal.loop-left-preserved
-loop-left-preserved c =
-    goes_on c.loop-left.invariant c.loop-left-test.true c.turn.ensures c.in-Goes.is c.turn.auto.heap c.turn.auto.stack c.turn.auto.bound
-
-pub returns : goal.returns
-returns c = last c.loop-left.invariant c.loop-left-test.false c.turn-2.ensures
+pub loop-preserved : goal.loop-preserved
+loop-preserved c = goes_on _ _ _ _ _ _ _ _ c.turn.ensures c.loop.invariant (omega arith) c.in-Goes.is

@@ -1,22 +1,22 @@
 -- `stepper::turns::advance` goes on over rows without a step, as `advanced` does. The loop's invariant is `Going`: what is left to be done
--- gives what the whole gives. The measure is how many rows are left. Assumes nothing.
-use Rattle.std.proofs.Common.{◌≡◌, ℕ, List, length}
+-- gives what the whole gives. Assumes nothing.
+use Rattle.std.proofs.Common.{◌≡◌, ℕ, ◌-◌, ◌<◌, ◌≤◌, List, Break}
+use Rattle.calculus.specs.Run.{outcome_of}
+use Rattle.calculus.specs.declared.End.TheVariants.{Stuck}
 use Rattle.tables.specs.Rows.{whole_rows}
+use Rattle.yields.specs.declared.Terms.{Terms}
 use Rattle.stepper.specs.declared.StepState.{StepState}
-use Rattle.stepper.specs.declared.StepTerms.{StepTerms}
-use Rattle.stepper.specs.Turns.{advanced}
+use Rattle.stepper.specs.States.{Turned}
+use Rattle.stepper.specs.Turns.{advanced, advanced_to, flow_of}
 use Rattle.stepper.proofs.turns.advance.Given as goal
 
-pub record Going (heap₀ stack₀ bound₀ rows structs types : List ℕ) (T : StepTerms) (s₀ : StepState) (heap stack bound : List ℕ) (s : StepState)
-    (left : ℕ) : Type 0 where
-  pub same : advanced rows structs types T (whole_rows rows) s₀ heap₀ stack₀ bound₀ ≡ advanced rows structs types T left s heap stack bound
-  pub heap_long : length heap ≡ length heap₀
-  pub stack_long : length stack ≡ length stack₀
-  pub bound_long : length bound ≡ length bound₀
+-- after i of n rows and one more
+pub record Going (whole : Turned) (rows structs types : List ℕ) (T : Terms) (n i : ℕ) (heap stack bound : List ℕ) (s : StepState) : Type 0 where
+  pub again : i ≤ n → whole ≡ advanced rows structs types T (n - i) s heap stack bound
+  pub spent : n < i → flow_of whole ≡ advanced_to (Break (outcome_of Stuck s.steps s.first)) heap stack bound
 
-abbrev pub invariant-loop-left : goal.invariant-loop-left
-invariant-loop-left l =
-    Going l.initial.heap l.initial.stack l.initial.bound l.rows l.structs l.types l.terms l.initial.now l.heap l.stack l.bound l.now l.left
-
-abbrev pub decreases-loop-left : goal.decreases-loop-left
-decreases-loop-left l = l.left
+abbrev pub invariant-loop : goal.invariant-loop
+invariant-loop l =
+    Going (advanced l.script.rows.now l.script.structs.now l.script.types.now l.script.terms (whole_rows l.script.rows.now) l.initial.now l.initial.heap
+    l.initial.stack l.initial.bound) l.script.rows.now l.script.structs.now l.script.types.now l.script.terms (whole_rows l.script.rows.now) l.counter l.heap
+    l.stack l.bound l.now

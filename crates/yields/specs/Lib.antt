@@ -1,0 +1,3 @@
+-- Models of the code: what each function gives, with lists in the place of lent memory.
+pub mod Yields
+pub mod Malloc
