@@ -8,10 +8,10 @@ use Prim.Native.Nat.{ℕ, zero, suc, ◌+◌, ◌-◌, ◌≤◌, ◌<◌}
 use native.Mathlib.Omega.{arith}
 use lib.Dec.{eqb, ltb, leb}
 use lib.ListN.{length, length-set, get_or, set}
-use borrow.Author.Tests.{ltb-true}
+use borrow.Author.Tests.{ltb-true, ne_eqb}
 use Rattle.choice.specs.Choice.{both, choose_case, choose_told}
 use Rattle.calculus.proofs.Same.{as_true}
-use Rattle.tables.specs.Kinds.{code_checked, code_tag}
+use Rattle.tables.specs.Kinds.{code_checked, code_tag, size_at}
 use Rattle.judge.specs.Rows.{entry_at, node_number, operation_at}
 use Rattle.judge.specs.Addresses.{present, covered, entries, place}
 use Rattle.judge.specs.Marks.{Seen, seen, alone, marked}
@@ -35,6 +35,17 @@ covered_fits cells address more j =
     choose_told (λ (o : Option ℕ). o ≡ Some j → j + more < entries cells) (present cells (entries cells) i address more) (λ _. Some i) (λ _. None)
     (λ t e. let s : i ≡ j = cc in rw s at (present_fits cells (entries cells) i address more t))
     (λ _ e. absurd (none-some j e))
+
+-- what isn't a struct has fewer than 65,536 words
+pub few_words : (structs : List ℕ) (value code : ℕ) → (code_tag code ≡ 2 → ⊥) → span structs value code < 65536
+unfolding span size_at
+few_words structs value code n =
+    choose_case (λ k. k < 65536) (eqb value 0) _ _ (omega arith)
+    (choose_case (λ k. k < 65536) (code_checked code) _ _
+    (choose_case (λ k. k < 65536) (eqb (code_tag code) 1) _ _ (omega arith)
+    (rw (ne_eqb (code_tag code) 2 n)
+    (choose_case (λ k. k < 65536) (eqb (code_tag code) 3) _ _ (omega arith) (omega arith))))
+    (omega arith))
 
 -- ---- the queue
 -- from s to s': the queue is as long as it was, and ends within it if it did

@@ -1,5 +1,5 @@
 -- How the parts of a node are judged, by what the node does.
-use Rattle.std.specs.Prelude.{ℕ, ◌+◌, Bool, true, false, List, set}
+use Rattle.std.specs.Prelude.{ℕ, ◌+◌, Bool, true, false, not, List, set}
 use Rattle.choice.specs.Choice.{choose}
 use Rattle.cells.specs.declared.Mode.{Mode}
 use Rattle.cells.specs.declared.Mode.TheVariants.{Unchecked}
@@ -37,6 +37,19 @@ is_access op.Read = true
 is_access (op.Acts o) = as_access (act_role o)
 is_access op.Field = false
 is_access op.Unknown = false
+
+-- it acts on two parts that are judged each as a whole
+abbrev pub on_wholes : Operation → Bool
+on_wholes op.Literal = false
+on_wholes op.Variable = false
+on_wholes op.Let = false
+on_wholes op.Malloc = false
+on_wholes op.Unchecked = false
+on_wholes op.Cast = false
+on_wholes op.Read = false
+on_wholes (op.Acts o) = not (as_access (act_role o))
+on_wholes op.Field = false
+on_wholes op.Unknown = false
 
 -- the mode of its first part
 abbrev pub inner_mode : Operation → Mode → Mode

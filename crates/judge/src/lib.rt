@@ -49,6 +49,6 @@ pub fn judge_script(
     };
     let good = first_bad(marks, queue, script);
     let left = nodes.len() / 4;
-    let code = judge_node(bound, left, &script, good, false, 0, Mode::Checked, 0)?;
+    let code = judge_node(bound, left, &script, good, 0, Mode::Checked, 0)?;
     Ok(Kind::from(code))
 }

@@ -99,6 +99,7 @@ fn look_alike(
 }
 
 // The words that a literal needs are there and have the codes claimed: then they are marked.
+#[tactic(auto, using(crate::proofs::Room::covered_fits, crate::proofs::Room::few_words), unfolding(crate::specs::Literals::look_at))]
 fn look_at(
     marks: &mut [u16],
     queue: &mut [u64],

@@ -1,6 +1,6 @@
 // How the parts of a node are judged, by what the node does.
 ghost use Rattle.std.specs.Prelude.{◌+◌, ◌<◌, ◌^◌, ◌≡◌};
-ghost use Rattle.judge.specs.Parts.{parts_of, is_access, inner_mode, inner_lets, bound_with};
+ghost use Rattle.judge.specs.Parts.{parts_of, is_access, on_wholes, inner_mode, inner_lets, bound_with};
 
 use calculus::{Act, Operation};
 use cells::{Mode, put};
@@ -21,6 +21,13 @@ pub fn is_access(operation: Operation) -> bool
     ensures { result ≡ is_access operation }
 {
     matches!(operation, Operation::Read | Operation::Acts(Act::Assign))
+}
+
+// Whether a node acts on two parts that are judged each as a whole: then it may differ as the pointer of an access.
+pub fn on_wholes(operation: Operation) -> bool
+    ensures { result ≡ on_wholes operation }
+{
+    matches!(operation, Operation::Acts(Act::Sum))
 }
 
 // The mode of a node's first part.

@@ -158,19 +158,19 @@ pub fn two_told(
     }
 }
 
-// A node without parts: literal i is well typed if it comes before the first bad one.
+// A node without parts: literal i is well typed if it is among the first `good` nodes.
 pub fn leaf_told(
     bound: &[u64],
     script: &ScriptTables,
-    bad: usize,
+    good: usize,
     lets: usize,
     i: usize,
     operation: Operation,
 ) -> Result<u64, Refusal>
-    ensures { result ≡ leaf_told bound.now script.now.structs.now script.now.nodes.now bad lets i operation }
+    ensures { result ≡ leaf_told bound.now script.now.structs.now script.now.nodes.now good lets i operation }
 {
     match operation {
-        Operation::Literal => literal_told(script.nodes, bad, i),
+        Operation::Literal => literal_told(script.nodes, good, i),
         Operation::Variable => variable_told(bound, lets, i, row(script.nodes, i, 1)),
         Operation::Malloc => malloc_told(script.structs, i, row(script.nodes, i, 2)),
         _ => no_rule(i),
@@ -178,10 +178,10 @@ pub fn leaf_told(
 }
 
 #[tactic(auto, unfolding(crate::specs::Rules::literal_told))]
-fn literal_told(nodes: &[u64], bad: usize, i: usize) -> Result<u64, Refusal>
-    ensures { result ≡ literal_told nodes.now bad i }
+fn literal_told(nodes: &[u64], good: usize, i: usize) -> Result<u64, Refusal>
+    ensures { result ≡ literal_told nodes.now good i }
 {
-    if i < bad {
+    if i < good {
         return Ok(row(nodes, i, 2));
     }
     Err(Refusal {
