@@ -4,6 +4,7 @@ ghost use Rattle.image.specs.Content.{Content};
 ghost use Rattle.codlinbell.specs.Answered.{answering, answered, ran, judged_then, content_verdict, content_run, default_limit};
 ghost use Rattle.codlinbell.specs.Prepared.{LongTables, Prepared};
 
+use crate::fronts::{TableFronts, fronts};
 use crate::heap::place_cells;
 use answers::Answer;
 use calculus::Outcome;
@@ -92,24 +93,10 @@ fn answer_in(
 {
     let words = heap_words(heap);
     let sizes = load(image, words, structs, types, cells, nodes)?;
-    let s = 17 * sizes.structs;
-    let t = sizes.types;
-    let c = 3 * sizes.cells;
-    let n = 4 * sizes.nodes;
     let marked = sizes.cells;
-    judge_and_run(
-        heap,
-        &mut marks[..marked],
-        queue,
-        bound,
-        frames,
-        &structs[..s],
-        &types[..t],
-        &cells[..c],
-        &nodes[..n],
-        words,
-        limit,
-    )
+    let script = fronts(structs, types, cells, nodes, sizes);
+    let marks = &mut marks[..marked];
+    judge_and_run(heap, marks, queue, bound, frames, &script, words, limit)
 }
 
 // The content of the tables is judged, and run if it is accepted; if not, the heap stays as it is.
@@ -119,21 +106,23 @@ fn judge_and_run(
     queue: &mut [u64],
     bound: &mut [u64],
     frames: &mut [u64],
-    structs: &[u64],
-    types: &[u64],
-    cells: &[u64],
-    nodes: &[u64],
+    script: &TableFronts,
     words: usize,
     limit: u64,
 ) -> Answer
     ensures { (image : List ℕ) (c : Content)
-        → Prepared image heap.old words c structs.now types.now cells.now nodes.now marks.old queue.old bound.old frames.old
+        → Prepared image heap.old words c script.now.structs.now script.now.types.now script.now.cells.now script.now.nodes.now
+        marks.old queue.old bound.old frames.old
         → answering result heap.new ≡ judged_then heap.old (content_verdict heap.old c) (λ _. content_run heap.old limit c) }
 {
+    let TableFronts {
+        structs,
+        types,
+        cells,
+        nodes,
+    } = *script;
     judge_script(structs, types, cells, nodes, marks, queue, bound)?;
-    Ok(place_and_run(
-        heap, bound, frames, structs, types, cells, nodes, words, limit,
-    ))
+    Ok(place_and_run(heap, bound, frames, script, words, limit))
 }
 
 // The content of the tables is run over its own heap.
@@ -141,24 +130,30 @@ fn place_and_run(
     heap: &mut [u64],
     bound: &mut [u64],
     frames: &mut [u64],
-    structs: &[u64],
-    types: &[u64],
-    cells: &[u64],
-    nodes: &[u64],
+    script: &TableFronts,
     words: usize,
     limit: u64,
 ) -> Outcome
     ensures { (image : List ℕ) (c : Content) (marks queue : List ℕ)
-        → Prepared image heap.old words c structs.now types.now cells.now nodes.now marks queue bound.old frames.old
+        → Prepared image heap.old words c script.now.structs.now script.now.types.now script.now.cells.now script.now.nodes.now
+        marks queue bound.old frames.old
         → answering (Ok result) heap.new ≡ ran heap.old (content_run heap.old limit c) }
 {
     clear(heap, words);
-    place_cells(heap, cells);
+    place_cells(heap, script.cells);
     let terms = Terms {
         words,
         low: 1,
         high: words,
         limit,
     };
-    run(heap, frames, bound, nodes, structs, types, terms)
+    run(
+        heap,
+        frames,
+        bound,
+        script.nodes,
+        script.structs,
+        script.types,
+        terms,
+    )
 }

@@ -2,6 +2,7 @@
 #![tactic(auto)]
 
 mod answer;
+mod fronts;
 mod heap;
 mod host;
 mod verdict;

@@ -4,6 +4,7 @@ ghost use Rattle.judge.specs.Script.{as_verdict};
 ghost use Rattle.codlinbell.specs.Answered.{announced};
 ghost use Rattle.codlinbell.specs.Prepared.{LongTables};
 
+use crate::fronts::fronts;
 use calculus::Refusal;
 use cells::Kind;
 use image::load;
@@ -49,15 +50,12 @@ fn judge_in(
     ensures { as_verdict result ≡ announced words image.now }
 {
     let sizes = load(image, words, structs, types, cells, nodes)?;
-    let s = 17 * sizes.structs;
-    let t = sizes.types;
-    let c = 3 * sizes.cells;
-    let n = 4 * sizes.nodes;
+    let script = fronts(structs, types, cells, nodes, sizes);
     judge_script(
-        &structs[..s],
-        &types[..t],
-        &cells[..c],
-        &nodes[..n],
+        script.structs,
+        script.types,
+        script.cells,
+        script.nodes,
         marks,
         queue,
         bound,

@@ -15,56 +15,36 @@ told c =
     let k = c.load.auto in
     loaded_told c.requires c.load.ensures c.in_ok-sizes.was k.structs k.types k.cells k.nodes
 
-pub overflow_mul-s : goal.overflow_mul-s
-overflow_mul-s c = omega (arith, (told (goal.at.overflow_mul-s c).In_ok-sizes).structs_few)
+pub fronts-script-requires-clause-structs_room : goal.fronts-script-requires-clause-structs_room
+fronts-script-requires-clause-structs_room c = (told (goal.at.fronts-script-requires-clause-structs_room c).In_ok-sizes).structs_room
 
-pub overflow_mul-c : goal.overflow_mul-c
-overflow_mul-c c = omega (arith, (told (goal.at.overflow_mul-c c).In_ok-sizes).cells_few)
+pub fronts-script-requires-clause-types_room : goal.fronts-script-requires-clause-types_room
+fronts-script-requires-clause-types_room c = (told (goal.at.fronts-script-requires-clause-types_room c).In_ok-sizes).types_room
 
-pub overflow_mul-n : goal.overflow_mul-n
-overflow_mul-n c = omega (arith, (told (goal.at.overflow_mul-n c).In_ok-sizes).nodes_few)
+pub fronts-script-requires-clause-cells_room : goal.fronts-script-requires-clause-cells_room
+fronts-script-requires-clause-cells_room c = (told (goal.at.fronts-script-requires-clause-cells_room c).In_ok-sizes).cells_room
 
-pub slice_bounds-judge_and_run-end : goal.slice_bounds-judge_and_run-end
-slice_bounds-judge_and_run-end c = omega (arith, (told (goal.at.slice_bounds-judge_and_run-end c).In_ok-sizes).few_cells, c.requires.marks_room)
+pub fronts-script-requires-clause-nodes_room : goal.fronts-script-requires-clause-nodes_room
+fronts-script-requires-clause-nodes_room c = (told (goal.at.fronts-script-requires-clause-nodes_room c).In_ok-sizes).nodes_room
 
-pub slice_bounds-judge_and_run-end-2 : goal.slice_bounds-judge_and_run-end-2
-slice_bounds-judge_and_run-end-2 c = sym (length-take-le _ _ (omega (arith, (told (goal.at.slice_bounds-judge_and_run-end-2 c).In_ok-sizes).few_cells, c.requires.marks_room)))
+pub slice_bounds-marks-end : goal.slice_bounds-marks-end
+slice_bounds-marks-end c = omega (arith, (told (goal.at.slice_bounds-marks-end c).In_ok-sizes).few_cells, c.requires.marks_room)
 
-pub slice_bounds-judge_and_run-end-3 : goal.slice_bounds-judge_and_run-end-3
-slice_bounds-judge_and_run-end-3 c = (told (goal.at.slice_bounds-judge_and_run-end-3 c).In_ok-sizes).structs_room
-
-pub slice_bounds-judge_and_run-end-4 : goal.slice_bounds-judge_and_run-end-4
-slice_bounds-judge_and_run-end-4 c = sym (length-take-le _ _ (told (goal.at.slice_bounds-judge_and_run-end-4 c).In_ok-sizes).structs_room)
-
-pub slice_bounds-judge_and_run-end-5 : goal.slice_bounds-judge_and_run-end-5
-slice_bounds-judge_and_run-end-5 c = (told (goal.at.slice_bounds-judge_and_run-end-5 c).In_ok-sizes).types_room
-
-pub slice_bounds-judge_and_run-end-6 : goal.slice_bounds-judge_and_run-end-6
-slice_bounds-judge_and_run-end-6 c = sym (length-take-le _ _ (told (goal.at.slice_bounds-judge_and_run-end-6 c).In_ok-sizes).types_room)
-
-pub slice_bounds-judge_and_run-end-7 : goal.slice_bounds-judge_and_run-end-7
-slice_bounds-judge_and_run-end-7 c = (told (goal.at.slice_bounds-judge_and_run-end-7 c).In_ok-sizes).cells_room
-
-pub slice_bounds-judge_and_run-end-8 : goal.slice_bounds-judge_and_run-end-8
-slice_bounds-judge_and_run-end-8 c = sym (length-take-le _ _ (told (goal.at.slice_bounds-judge_and_run-end-8 c).In_ok-sizes).cells_room)
-
-pub slice_bounds-judge_and_run-end-9 : goal.slice_bounds-judge_and_run-end-9
-slice_bounds-judge_and_run-end-9 c = (told (goal.at.slice_bounds-judge_and_run-end-9 c).In_ok-sizes).nodes_room
-
-pub slice_bounds-judge_and_run-end-10 : goal.slice_bounds-judge_and_run-end-10
-slice_bounds-judge_and_run-end-10 c = sym (length-take-le _ _ (told (goal.at.slice_bounds-judge_and_run-end-10 c).In_ok-sizes).nodes_room)
+pub slice_bounds-marks-end-2 : goal.slice_bounds-marks-end-2
+slice_bounds-marks-end-2 c = sym (length-take-le _ _ (omega (arith, (told (goal.at.slice_bounds-marks-end-2 c).In_ok-sizes).few_cells, c.requires.marks_room)))
 
 pub returns : goal.returns
 returns c =
     let l = told (goal.at.returns c).In_ok-sizes in
     let r = c.requires in
+    let f = c.fronts-script.ensures in
     read_told _ _ _ _ c.heap_words-words.ensures l.reads
     (c.judge_and_run.ensures _ l.content
     (record {
       next = l.next;
       words_are = c.heap_words-words.ensures;
       reads = l.reads;
-      held = l.held;
+      held = rw (f.structs, f.types, f.cells, f.nodes) l.held;
       marks_room = omega (arith, length-take-le c.in_ok-sizes.sizes.cells c.args.marks.now (omega (arith, l.few_cells, r.marks_room)), l.cells_count);
       queue_room = omega (arith, r.queue_room, l.cells_count, l.few_cells);
       bound_room = r.bound_room;
