@@ -15,3 +15,5 @@ pub mod FirstFault
 pub mod Counts
 pub mod Limits
 pub mod GoodEnd
+-- Models of the code: the refusal that a number's lack is.
+pub mod Unread

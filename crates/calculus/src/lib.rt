@@ -5,6 +5,7 @@
 use cells::Cell;
 
 mod codes;
+mod unread;
 
 // What is done with the values of two parts.
 #[derive(Clone, Copy, Debug, PartialEq, Eq)]

@@ -1,10 +1,11 @@
 -- A node's line tells its head: what the reader puts into a row is what the definition reads, word types by their packed codes.
 -- Assumes nothing.
 use mathlib.Core.Path.{◌≡◌, refl}
-use mathlib.Core.List.{List, [], ◌∷◌, map}
-use Prim.Native.Nat.{ℕ, zero, suc, ◌<◌}
-use native.Mathlib.Omega.{arith}
+use mathlib.Core.Bool.{true, false}
+use mathlib.Core.List.{List, map}
+use Prim.Native.Nat.{ℕ, ◌<◌}
 use lib.ListN.{length, get_or, length-map}
+use Rattle.std.proofs.lemmas.List.{get_or-map}
 use Rattle.cells.specs.Code.{packed}
 use Rattle.cells.specs.declared.Mode.TheVariants.{Checked}
 use Rattle.cells.specs.declared.Kind.{Kind}
@@ -20,7 +21,8 @@ use Rattle.image.specs.Tables.{read_target}
 use Rattle.image.specs.Nodes.{Head, leaf, part, parts, binding, read_kind, head_of}
 use Rattle.image.specs.Tabled.{one_operation, one_argument, one_kind, two_operation}
 use Rattle.image.specs.Answers.{mapped, pointer_code}
-use Rattle.image.specs.Filling.{NodeLine, node_line, kind_code, literal, line_of}
+use Rattle.image.specs.declared.NodeRow.{NodeRow}
+use Rattle.image.specs.Filling.{node_row, kind_code, literal, line_of}
 use Rattle.image.specs.declared.Parts.TheVariants as follow
 use Rattle.image.proofs.Gives.{Gives, gives, gives_more}
 use Rattle.image.proofs.Numbers.{below_gives}
@@ -47,18 +49,13 @@ alike_mapped f (got a next) = alike refl
 alike_mapped f (refused e p) = alike_refused
 
 -- a node's operation and line tell its head
-pub data Tells : Operation → NodeLine → Head → Type 0 where
-  tells_lit : {n : ℕ} {κ : Kind} → Tells op.Literal (node_line n (packed κ) follow.Leaf) (leaf (lit n κ))
-  tells_var : {k : ℕ} → Tells op.Variable (node_line k 0 follow.Leaf) (leaf (var k))
-  tells_malloc : {ω : Target} → Tells op.Malloc (node_line 0 (packed (pointer Checked ω)) follow.Leaf) (leaf (malloc ω))
-  tells_part : (o : One) → Tells (one_operation o) (node_line (one_argument o) (one_kind o) follow.One) (part o)
-  tells_parts : (o : Two) → Tells (two_operation o) (node_line 0 0 (follow.Two 0)) (parts o)
-  tells_binding : Tells op.Let (node_line 0 0 (follow.Two 1)) binding
-
-code_at : (κs : List Kind) (n : ℕ) → n < length κs → get_or (map packed κs) n 0 ≡ packed (get_or κs n Int)
-code_at [] n l = absurd (omega arith)
-code_at (κ ∷ κs) zero l = refl
-code_at (κ ∷ κs) (suc n) l = code_at κs n (omega arith)
+pub data Tells : Operation → NodeRow → Head → Type 0 where
+  tells_lit : {n : ℕ} {κ : Kind} → Tells op.Literal (node_row n (packed κ) follow.Leaf) (leaf (lit n κ))
+  tells_var : {k : ℕ} → Tells op.Variable (node_row k 0 follow.Leaf) (leaf (var k))
+  tells_malloc : {ω : Target} → Tells op.Malloc (node_row 0 (packed (pointer Checked ω)) follow.Leaf) (leaf (malloc ω))
+  tells_part : (o : One) → Tells (one_operation o) (node_row (one_argument o) (one_kind o) follow.One) (part o)
+  tells_parts : (o : Two) → Tells (two_operation o) (node_row 0 0 (follow.Two false)) (parts o)
+  tells_binding : Tells op.Let (node_row 0 0 (follow.Two true)) binding
 
 module _ (image : List ℕ) (t : Tables) where
   kind_alike : (at : ℕ) → Alike (λ k κ. k ≡ packed κ) (kind_code image (map packed t.types) at) (read_kind image t at)
@@ -69,8 +66,10 @@ module _ (image : List ℕ) (t : Tables) where
       (gives_more (λ n next s. s.limited_by) (below_gives fault.Unknown (length t.types) image at)))
     where
       go : (r : Parsed ℕ) → Gives (λ n next. n < length t.types) r
-          → Alike (λ k κ. k ≡ packed κ) (then_read r (λ n next. got (get_or (map packed t.types) n 0) next)) (then_read r (λ n next. got (get_or t.types n Int) next))
-      go (got n next) (gives l) = alike (code_at t.types n l)
+          → Alike (λ k κ. k ≡ packed κ)
+          (then_read r (λ n next. got (get_or (map packed t.types) n 0) next))
+          (then_read r (λ n next. got (get_or t.types n Int) next))
+      go (got n next) (gives l) = alike (get_or-map packed t.types n Int 0 l)
       go (refused f p) g = alike_refused
 
   pub line_alike : (lets first : ℕ) (o : Operation) (at : ℕ)
@@ -82,7 +81,7 @@ module _ (image : List ℕ) (t : Tables) where
   line_alike lets first op.Let at = alike tells_binding
   line_alike lets first op.Malloc at =
       rw (length-map t.types packed)
-      (alike_then _ _ (alike_mapped (pointer_code 0) (read_target image (length t.structs) (length t.types) at)) (λ k ω at₁ q. alike (rw q tells_malloc)))
+      (alike_then _ _ (alike_mapped (pointer_code Checked) (read_target image (length t.structs) (length t.types) at)) (λ k ω at₁ q. alike (rw q tells_malloc)))
   line_alike lets first op.Unchecked at = alike (tells_part unchecked)
   line_alike lets first op.Cast at = alike_then _ _ (kind_alike at) (λ k κ at₁ q. alike (rw q (tells_part (cast κ))))
   line_alike lets first op.Read at = alike (tells_part read)

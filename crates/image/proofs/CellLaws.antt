@@ -18,7 +18,8 @@ use Rattle.image.specs.Answers.{mapped}
 use Rattle.image.specs.Tabled.{cell_rows}
 use Rattle.image.specs.Parsing.{Parsed, got, refused, then_read, number, below}
 use Rattle.image.specs.Cells.{read_address, read_cell, read_cells}
-use Rattle.image.specs.Tabling.{CellRow, read_row, cell_set, cells_into}
+use Rattle.image.specs.declared.CellRow.{CellRow}
+use Rattle.image.specs.Tabling.{read_row, cell_set, cells_into}
 use Rattle.image.proofs.Gives.{Gives, gives, gives_none, gives_then, gives_test, gives_telling, given_by}
 use Rattle.image.proofs.Each.{Each, each_none, each_more}
 use Rattle.image.proofs.Fills.{Fills, fills, fills_telling, fills_as, fills_more}
@@ -112,22 +113,6 @@ cells_give image words types (suc left) before at =
         }
 
 -- addresses by number: the i-th rises above `before` and below each later one, and none is above W
-abbrev pub address_of : List Placed → ℕ → ℕ
-address_of ps i = (get_or ps i (record { address = 0; held = cell 0 Int })).address
-
-pub lowest_cell : {words : ℕ} {types : List Kind} {before : ℕ} {ps : List Placed} → Rising words types before ps → (i : ℕ) → i < length ps
-    → (before < address_of ps i) × (address_of ps i ≤ words)
-lowest_cell rising_none i h = absurd (omega arith)
-lowest_cell (rising a b f k e r) zero h = (a, b)
-lowest_cell (rising a b f k e r) (suc i) h = let (p, q) = lowest_cell r i (omega arith) in (omega arith, q)
-
-pub rises_on : {words : ℕ} {types : List Kind} {before : ℕ} {ps : List Placed} → Rising words types before ps → (i j : ℕ) → i < j → j < length ps
-    → address_of ps i < address_of ps j
-rises_on rising_none i j l h = absurd (omega arith)
-rises_on (rising a b f k e r) zero (suc j) l h = (lowest_cell r j (omega arith)).0
-rises_on (rising a b f k e r) (suc i) (suc j) l h = rises_on r i j (omega arith) (omega arith)
-rises_on (rising a b f k e r) i zero l h = absurd (omega arith)
-
 -- The cell table is filled as the definition reads: `cells_into` refuses where `read_cells` refuses, and leaves the rows of what it reads
 -- where the table has room for them.
 pub cells_fill : (image : List ℕ) (words : ℕ) (types : List Kind) (codes : List ℕ)

@@ -11,19 +11,19 @@ use lib.Seq.{take-suc-set, drop-set-lt}
 use Rattle.cells.specs.Code.{packed, Small}
 use Rattle.cells.specs.declared.Kind.{Kind}
 use Rattle.cells.specs.declared.Kind.TheVariants.{Int}
+use Rattle.std.proofs.Common.{Result, Ok, Err}
+use Rattle.numbers.specs.declared.Read.{Read}
 use Rattle.calculus.specs.declared.Fault.{Fault}
+use Rattle.calculus.specs.declared.Refusal.{Refusal}
 use Rattle.calculus.specs.declared.Fault.TheVariants as fault
 use Rattle.image.specs.Content.{Tables, Placed}
 use Rattle.image.specs.Parsing.{Parsed, got, refused, below, several}
 use Rattle.image.specs.Tables.{read_struct, read_types}
 use Rattle.image.specs.Cells.{read_cells}
 use Rattle.image.specs.Image.{read_tables, read_placed}
-use Rattle.image.specs.Answers.{refusal}
+use Rattle.image.specs.Answers.{refusal, with_next}
 use Rattle.image.specs.Filled.{Filled, filled}
-use Rattle.image.specs.Tabling.{TablesFilled, tabled, structs_into, types_into, counts_at, tables_into, cells_into, placed_into}
-use Rattle.image.specs.declared.Counted.TheVariants as both
-use Rattle.image.specs.declared.Limited.{Limited}
-use Rattle.image.specs.declared.Limited.TheVariants as lim
+use Rattle.image.specs.Tabling.{TablesFilled, tabled, table_counts, structs_into, types_into, counts_at, tables_into, cells_into, placed_into}
 use Rattle.image.proofs.Gives.{Gives, gives, gives_then, gives_more, given_by}
 use Rattle.image.proofs.Numbers.{Below, below_gives}
 use Rattle.image.proofs.Each.{Each, Series}
@@ -118,8 +118,8 @@ pub record TablesHeld (ss ts : List ℕ) (t : Tables) (S T : ℕ) (ss' ts' : Lis
 
 pub data TablesAre (ss ts : List ℕ) : Parsed Tables → TablesFilled → Type 0 where
   tables_are : {t : Tables} {S T next : ℕ} {ss' ts' : List ℕ} → TablesHeld ss ts t S T ss' ts'
-      → TablesAre ss ts (got t next) (tabled (both.Tables S T next) ss' ts')
-  tables_refused : {f : Fault} {p : ℕ} {ss' ts' : List ℕ} → TablesAre ss ts (refused f p) (tabled (both.Refused (refusal f p)) ss' ts')
+      → TablesAre ss ts (got t next) (tabled (Ok (with_next (table_counts S T) next)) ss' ts')
+  tables_refused : {f : Fault} {p : ℕ} {ss' ts' : List ℕ} → TablesAre ss ts (refused f p) (tabled (Err (refusal f p)) ss' ts')
 
 -- type 0 is int: the table that the other types are read into
 int_written : (ts : List ℕ) → 0 < length ts → take 1 (set ts 0 1) ≡ map packed (Int ∷ [])
@@ -196,32 +196,33 @@ module _ (image : List ℕ) (at : ℕ) (ss ts : List ℕ) (room : 256 ≤ length
 pub record TablesOpened (ss ts : List ℕ) (t : Tables) (next : ℕ) (F : TablesFilled) : Type 0 where
   pub S : ℕ
   pub T : ℕ
-  pub answer : F.result ≡ both.Tables S T next
+  pub answer : F.result ≡ Ok (with_next (table_counts S T) next)
   pub held : TablesHeld ss ts t S T F.structs F.types
 
 pub tables_opened : {ss ts : List ℕ} {t : Tables} {next : ℕ} {F : TablesFilled} → TablesAre ss ts (got t next) F → TablesOpened ss ts t next F
 tables_opened (tables_are {S = S} {T = T} h) = record { S = S; T = T; answer = refl; held = h }
 
 pub tables_unopened : {ss ts : List ℕ} {f : Fault} {p : ℕ} {F : TablesFilled} → TablesAre ss ts (refused f p) F
-    → F.result ≡ both.Refused (refusal f p)
+    → F.result ≡ Err (refusal f p)
 tables_unopened tables_refused = refl
 
 -- the cells as the code leaves them
-pub data PlacedAre (cs : List ℕ) : Parsed (List Placed) → Filled Limited → Type 0 where
+pub data PlacedAre (cs : List ℕ) : Parsed (List Placed) → Filled (Result (Read ℕ) Refusal) → Type 0 where
   placed_are : {ps : List Placed} {C next : ℕ} {cs' : List ℕ} → C ≡ length ps → (3 * C ≤ length cs → CellTable C cs ps cs')
-      → PlacedAre cs (got ps next) (filled (lim.Value C next) cs')
-  placed_refused : {f : Fault} {p : ℕ} {cs' : List ℕ} → PlacedAre cs (refused f p) (filled (lim.Refused (refusal f p)) cs')
+      → PlacedAre cs (got ps next) (filled (Ok (with_next C next)) cs')
+  placed_refused : {f : Fault} {p : ℕ} {cs' : List ℕ} → PlacedAre cs (refused f p) (filled (Err (refusal f p)) cs')
 
-pub record PlacedOpened (cs : List ℕ) (ps : List Placed) (next : ℕ) (F : Filled Limited) : Type 0 where
+pub record PlacedOpened (cs : List ℕ) (ps : List Placed) (next : ℕ) (F : Filled (Result (Read ℕ) Refusal)) : Type 0 where
   pub C : ℕ
-  pub answer : F.result ≡ lim.Value C next
+  pub answer : F.result ≡ Ok (with_next C next)
   pub count : C ≡ length ps
   pub table_of : 3 * C ≤ length cs → CellTable C cs ps F.table
 
-pub placed_opened : {cs : List ℕ} {ps : List Placed} {next : ℕ} {F : Filled Limited} → PlacedAre cs (got ps next) F → PlacedOpened cs ps next F
+pub placed_opened : {cs : List ℕ} {ps : List Placed} {next : ℕ} {F : Filled (Result (Read ℕ) Refusal)} → PlacedAre cs (got ps next) F
+    → PlacedOpened cs ps next F
 placed_opened (placed_are {C = C} c t) = record { C = C; answer = refl; count = c; table_of = t }
 
-pub placed_unopened : {cs : List ℕ} {f : Fault} {p : ℕ} {F : Filled Limited} → PlacedAre cs (refused f p) F → F.result ≡ lim.Refused (refusal f p)
+pub placed_unopened : {cs : List ℕ} {f : Fault} {p : ℕ} {F : Filled (Result (Read ℕ) Refusal)} → PlacedAre cs (refused f p) F → F.result ≡ Err (refusal f p)
 placed_unopened placed_refused = refl
 
 module _ (words : ℕ) (image : List ℕ) (t : Tables) (codes : List ℕ)

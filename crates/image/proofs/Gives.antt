@@ -47,3 +47,12 @@ gives_more f gives_none = gives_none
 pub gives_by : {A : Type 0} {P : A → ℕ → Type 0} (r : Parsed A) → ((a : A) (next : ℕ) → r ≡ got a next → P a next) → Gives P r
 gives_by (got a next) k = gives (k a next refl)
 gives_by (refused f p) k = gives_none
+
+-- the same as a fact by cases, which a search opens
+abbrev pub IfGot : {A : Type 0} → Parsed A → (A → ℕ → Type 0) → Type 0
+IfGot (got a next) P = P a next
+IfGot (refused f p) P = Unit {0}
+
+pub if_got : {A : Type 0} {P : A → ℕ → Type 0} {r : Parsed A} → Gives P r → IfGot r P
+if_got (gives p) = p
+if_got gives_none = tt

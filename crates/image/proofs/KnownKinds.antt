@@ -1,13 +1,14 @@
 -- Of kinds whose numbers are known: their numbers fit the code, so that kinds are the same exactly if their codes are.
 -- Assumes nothing.
-use mathlib.Core.Path.{◌≡◌, refl}
-use mathlib.Core.Bool.{Bool, true, false}
+use mathlib.Core.Path.{◌≡◌, refl, sym}
+use mathlib.Core.Bool.{Bool, true, false, ◌||◌}
 use mathlib.Core.List.{List, [], ◌∷◌, map}
 use Prim.Native.Nat.{ℕ, zero, suc, ◌<◌, ◌≤◌}
 use native.Mathlib.Omega.{arith}
 use lib.Dec.{eqb}
 use lib.ListN.{length, get_or}
 use borrow.Author.Tests.{eq-eqb, ne_eqb}
+use Rattle.choice.specs.Choice.{either}
 use Rattle.cells.specs.Code.{packed, Small, small_int, small_word, small_struct, small_array}
 use Rattle.cells.specs.Same.{same_kind}
 use Rattle.cells.specs.declared.Mode.{Mode}
@@ -49,18 +50,22 @@ entry_small s l (known_struct h) = small_struct (lower h s)
 entry_small s l (known_array k h) = small_array k (lower h l)
 
 -- kinds whose numbers fit are the same exactly if their codes are
-pub code_test : {κ τ : Kind} → Small κ → Small τ → eqb (packed κ) (packed τ) ≡ same_kind κ τ
+pub code_test : {κ τ : Kind} → Small κ → Small τ → eqb (packed τ) (packed κ) ≡ same_kind κ τ
 code_test {κ} {τ} s t = go (same_kind κ τ) refl
   where
-    go : (b : Bool) → same_kind κ τ ≡ b → eqb (packed κ) (packed τ) ≡ b
-    go true e = eq-eqb (packed κ) (packed τ) (rw (same_kind_true κ τ e))
-    go false e = ne_eqb (packed κ) (packed τ) (λ p. same_kind_false κ τ e (packed_injective s t p))
+    go : (b : Bool) → same_kind κ τ ≡ b → eqb (packed τ) (packed κ) ≡ b
+    go true e = eq-eqb (packed τ) (packed κ) (rw (same_kind_true κ τ e))
+    go false e = ne_eqb (packed τ) (packed κ) (λ p. same_kind_false κ τ e (packed_injective s t (sym p)))
+
+either_is : (a b : Bool) → a || b ≡ either a b
+either_is true b = refl
+either_is false b = refl
 
 -- looking for a code among codes is looking for its kind among the kinds
 pub among_kinds : (κ : Kind) (τs : List Kind) → Small κ → Each Small τs → among (packed κ) (map packed τs) ≡ is_among κ τs
-unfolding among is_among
+unfolding is_among
 among_kinds κ [] s e = refl
-among_kinds κ (τ ∷ τs) s (each_more q e) = rw (code_test s q, among_kinds κ τs s e)
+among_kinds κ (τ ∷ τs) s (each_more q e) = rw (code_test s q, among_kinds κ τs s e) (either_is (same_kind κ τ) (is_among κ τs))
 
 -- a kind that is not among others is none of them
 pub not_among : (κ : Kind) (τs : List Kind) → is_among κ τs ≡ false → (i : ℕ) → i < length τs → κ ≡ get_or τs i Int → ⊥

@@ -11,6 +11,7 @@ use lib.Dec.{eqb, ltb}
 use lib.ListN.{length, get_or, take}
 use lib.Seq.{length-take-le, get_or-take}
 use borrow.Author.Tests.{ltb-false}
+use Rattle.std.proofs.Common.{Ok, Err}
 use Rattle.choice.specs.Choice.{choose_both}
 use Rattle.cells.specs.Code.{Small}
 use Rattle.cells.specs.declared.Kind.TheVariants.{Int}
@@ -26,7 +27,6 @@ use Rattle.image.specs.Filling.{expression_answer, expression_into}
 use Rattle.image.specs.Loaded.{LoadedTables, loaded_tables, load_into, sizes, sizes_of, loading}
 use Rattle.image.specs.declared.Format.{Format}
 use Rattle.image.specs.declared.Sizes.{Sizes}
-use Rattle.image.specs.declared.Loading.TheVariants.{Loaded, Refused}
 use Rattle.image.proofs.Gives.{Gives, gives, gives_none, gives_then, gives_test, gives_by}
 use Rattle.image.proofs.Each.{Each}
 use Rattle.image.proofs.Numbers.{number_gives}
@@ -49,12 +49,12 @@ pub record ContentHeld (ss ts cs ns : List ℕ) (c : Content) (ss' ts' cs' ns' :
 
 pub data LoadAre (ss ts cs ns : List ℕ) : Parsed Content → LoadedTables → Type 0 where
   load_are : {c : Content} {next : ℕ} {ss' ts' cs' ns' : List ℕ} → ContentHeld ss ts cs ns c ss' ts' cs' ns'
-      → LoadAre ss ts cs ns (got c next) (loaded_tables (Loaded (sizes_of c)) ss' ts' cs' ns')
+      → LoadAre ss ts cs ns (got c next) (loaded_tables (Ok (sizes_of c)) ss' ts' cs' ns')
   load_refused : {f : Fault} {p : ℕ} {ss' ts' cs' ns' : List ℕ}
-      → LoadAre ss ts cs ns (refused f p) (loaded_tables (Refused (refusal f p)) ss' ts' cs' ns')
+      → LoadAre ss ts cs ns (refused f p) (loaded_tables (Err (refusal f p)) ss' ts' cs' ns')
 
 counted : {ss ts cs ns : List ℕ} {c : Content} {n : Sizes} {next : ℕ} {ss' ts' cs' ns' : List ℕ} → n ≡ sizes_of c
-    → ContentHeld ss ts cs ns c ss' ts' cs' ns' → LoadAre ss ts cs ns (got c next) (loaded_tables (Loaded n) ss' ts' cs' ns')
+    → ContentHeld ss ts cs ns c ss' ts' cs' ns' → LoadAre ss ts cs ns (got c next) (loaded_tables (Ok n) ss' ts' cs' ns')
 counted e h = rw e (load_are h)
 
 module _ (words : ℕ) (image ss ts cs ns : List ℕ) (room : 256 ≤ length ts) where
@@ -84,7 +84,8 @@ module _ (words : ℕ) (image ss ts cs ns : List ℕ) (room : 256 ≤ length ts)
           expression_result image t codes o.S o.held.types_table.codes o.held.structs_count at₃ ns
 
       held : {e : Expr} {at₄ : ℕ} → read_expr image t at₃ ≡ got e at₄
-          → ContentHeld ss ts cs ns (record { format = m; tables = t; cells = ps; expr = e }) (tables_into image at₁ ss ts).structs (tables_into image at₁ ss ts).types
+          → ContentHeld ss ts cs ns (record { format = m; tables = t; cells = ps; expr = e })
+          (tables_into image at₁ ss ts).structs (tables_into image at₁ ss ts).types
           (placed_into image words (tables_into image at₁ ss ts).types (o.T + 1) at₂ cs).table
           (expression_into image codes o.S at₃ ns).table
       held e₄ =

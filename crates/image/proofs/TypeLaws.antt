@@ -10,6 +10,7 @@ use native.Mathlib.Omega.{arith}
 use lib.Dec.{eqb}
 use lib.ListN.{length, get_or, set, take, drop, length-append, length-set, get_or-append}
 use lib.Seq.{get_or-append_seam, get_or-take, take-suc-set, drop-set-lt}
+use Rattle.std.proofs.lemmas.List.{get_or-map, map-append}
 use Rattle.cells.specs.Code.{packed, mode_of, Small}
 use Rattle.cells.specs.declared.Kind.{Kind}
 use Rattle.cells.specs.declared.Kind.TheVariants.{Int}
@@ -126,10 +127,6 @@ pub record TypeTable (n : ℕ) (t : List ℕ) (τs : List Kind) (t' : List ℕ) 
   pub rest : drop n t' ≡ drop n t
   pub long : length t' ≡ length t
 
-map_snoc : (τs : List Kind) (κ : Kind) → map packed (τs ++ κ ∷ []) ≡ map packed τs ++ packed κ ∷ []
-map_snoc [] κ = refl
-map_snoc (τ ∷ τs) κ = ap (λ l. packed τ ∷ l) (map_snoc τs κ)
-
 -- The type table is filled as the definition reads: `types_into` refuses where `read_types` refuses, and leaves the codes of what it reads.
 pub types_fill : (image : List ℕ) (S left : ℕ) (τs : List Kind) (at : ℕ) (t : List ℕ) → S ≤ 256 → length τs + left ≤ 256
     → length τs + left ≤ length t → TypeList S τs → take (length τs) t ≡ map packed τs
@@ -154,7 +151,7 @@ types_fill image S (suc left) τs at t s w room l e =
     grown κ = omega (arith, length_snoc τs κ)
 
     front : (κ : Kind) → take (length (τs ++ κ ∷ [])) (set t (length τs) (packed κ)) ≡ map packed (τs ++ κ ∷ [])
-    front κ = rw (length_snoc τs κ, map_snoc τs κ, ← e) (take-suc-set t (length τs) (packed κ) (omega arith))
+    front κ = rw (length_snoc τs κ, map-append packed τs (κ ∷ []), ← e) (take-suc-set t (length τs) (packed κ) (omega arith))
 
     step : (κ : Kind) (τs' : List Kind) (t' : List ℕ)
         → TypeTable (length (τs ++ κ ∷ []) + left) (set t (length τs) (packed κ)) τs' t' → TypeTable (length τs + suc left) t τs' t'
@@ -167,13 +164,8 @@ types_fill image S (suc left) τs at t s w room l e =
           long = q.long ∙ length-set t (length τs) (packed κ);
         }
 
-map_at : (τs : List Kind) (n : ℕ) → n < length τs → get_or (map packed τs) n 0 ≡ packed (get_or τs n Int)
-map_at [] n h = absurd (omega arith)
-map_at (τ ∷ τs) zero h = refl
-map_at (τ ∷ τs) (suc n) h = map_at τs n (omega arith)
-
 -- the code of each type, by its number
 pub code_at : {k : ℕ} {t t' : List ℕ} {τs : List Kind} → TypeTable k t τs t' → k ≡ length τs → (n : ℕ) → n < length τs
     → get_or t' n 0 ≡ packed (get_or τs n Int)
 code_at {k} {t} {t'} {τs} h e n l =
-    sym (get_or-take k t' n 0 (omega arith)) ∙ ap (λ x. get_or x n 0) h.codes ∙ map_at τs n l
+    sym (get_or-take k t' n 0 (omega arith)) ∙ ap (λ x. get_or x n 0) h.codes ∙ get_or-map packed τs n Int 0 l

@@ -1,18 +1,20 @@
 -- Every offset and every place that a reading tells lies within the image, if it starts within it: of numbers, targets, and the
 -- expression as it goes into the node table. The measure of the last is the depth.
 -- Assumes nothing.
-use mathlib.Core.Path.{◌≡◌, refl, ap}
+use mathlib.Core.Path.{◌≡◌, refl}
 use mathlib.Core.Bool.{Bool, true, false}
 use mathlib.Core.List.{List}
-use Prim.Native.Nat.{ℕ, zero, suc, ◌+◌, ◌≤◌}
+use Prim.Native.Nat.{ℕ, zero, suc, ◌+◌, ◌*◌, ◌≤◌}
 use native.Mathlib.Omega.{arith}
 use lib.Dec.{eqb, leb, ltb}
-use lib.ListN.{length}
+use lib.ListN.{length, set}
 use Rattle.choice.specs.Choice.{choose, choose_case}
-use Rattle.numbers.specs.Reading.{number_at}
+use Rattle.std.proofs.Common.{Result, Ok, Err, MatchResult}
+use Rattle.numbers.specs.Reading.{Number, number_at}
 use Rattle.numbers.specs.Width.{bits32}
-use Rattle.numbers.specs.declared.Number.{Number}
-use Rattle.numbers.specs.declared.Number.TheVariants as told
+use Rattle.numbers.specs.declared.Read.{Read}
+use Rattle.numbers.specs.declared.Unread.TheVariants.{Ends, Unfit}
+use Rattle.cells.specs.declared.Mode.TheVariants.{Checked}
 use Rattle.numbers.proofs.Laws.{number_sound, number_ends, number_unfit}
 use Rattle.calculus.specs.Operations.{operation_of}
 use Rattle.calculus.specs.declared.Operation.{Operation}
@@ -24,12 +26,10 @@ use Rattle.image.specs.Parsing.{Parsed, got, refused, then_read, as_reading, num
 use Rattle.image.specs.Tables.{read_target}
 use Rattle.image.specs.Answers.{mapped, pointer_code}
 use Rattle.image.specs.Filled.{Filled, filled}
-use Rattle.image.specs.Filling.{NodeLine, kind_code, literal, line_of, too_deep, code_into, line_into, head_into, second_into, parts_into, node_into}
+use Rattle.image.specs.Tabling.{on_read, on_filled}
+use Rattle.image.specs.Filling.{Headed, Noded, kind_code, literal, line_of, lets_inside, head_into, parts_into, node_into}
+use Rattle.image.specs.declared.Parts.{Parts}
 use Rattle.image.specs.declared.Parts.TheVariants.{Leaf, One, Two}
-use Rattle.image.specs.declared.NodeHead.{NodeHead}
-use Rattle.image.specs.declared.NodeHead.TheVariants as head
-use Rattle.image.specs.declared.Expression.{Expression}
-use Rattle.image.specs.declared.Expression.TheVariants as expression
 
 -- the offset behind what was read, or the fault's place, is at most `limit`
 pub data Within (limit : ℕ) {A : Type 0} : Parsed A → Type 0 where
@@ -56,9 +56,9 @@ module _ (image : List ℕ) where
   number_within at h = go (number_at image at) refl
     where
       go : (r : Number) → number_at image at ≡ r → Within (length image) (as_reading r)
-      go (told.Value v next) e = within (number_sound bits32 image at v next e).within
-      go (told.Ends p) e = within_refused {p = p} (omega (arith, number_ends bits32 image at p e))
-      go (told.Unfit p) e = within_refused {p = p} (omega (arith, number_unfit bits32 image at p e))
+      go (Ok r) e = within (number_sound bits32 image at r.value r.next e).within
+      go (Err (Ends p)) e = within_refused {p = p} (omega (arith, number_ends bits32 image at p e))
+      go (Err (Unfit p)) e = within_refused {p = p} (omega (arith, number_unfit bits32 image at p e))
 
   pub below_within : (f : Fault) (limit at : ℕ) → at ≤ length image → Within (length image) (below f limit image at)
   unfolding below
@@ -77,39 +77,33 @@ module _ (image : List ℕ) where
       (within_then (below fault.Limit 65536 image next) _ (below_within fault.Limit 65536 next l)
       (λ k at₁ m. within_then (below fault.Unknown known image at₁) _ (below_within fault.Unknown known at₁ m) (λ n at₂ o. within o)))))
 
--- the same of a head and of an expression that went into the table
-data HeadWithin (limit : ℕ) : NodeHead → Type 0 where
-  head_read : {p : _} {next : ℕ} → next ≤ limit → HeadWithin limit (head.Read p next)
-  head_refused : {r : Refusal} → r.place ≤ limit → HeadWithin limit (head.Refused r)
+-- the same of what is answered of a reading
+abbrev pub ToldWithin : (limit : ℕ) {A : Type 0} → Result (Read A) Refusal → Type 0
+ToldWithin limit r = MatchResult r (λ x. x.next ≤ limit) (λ q. q.place ≤ limit)
 
-pub data EndsWithin (limit : ℕ) : Expression → Type 0 where
-  ends_read : {next count : ℕ} → next ≤ limit → EndsWithin limit (expression.Read next count)
-  ends_refused : {r : Refusal} → r.place ≤ limit → EndsWithin limit (expression.Refused r)
+-- behind a part that writes nothing
+read_then : {limit : ℕ} {A B : Type 0} (t : List ℕ) (r : Parsed A) (go : A → ℕ → Filled (Result (Read B) Refusal))
+    → Within limit r → ((a : A) (next : ℕ) → next ≤ limit → ToldWithin limit (go a next).result) → ToldWithin limit (on_read r t go).result
+read_then t (got a next) go (within h) k = k a next h
+read_then t (refused f p) go (within_refused h) k = h
 
-code_within : {limit : ℕ} (t : List ℕ) (r : Parsed ℕ) (go : ℕ → ℕ → Filled NodeHead)
-    → Within limit r → ((code next : ℕ) → next ≤ limit → HeadWithin limit (go code next).result) → HeadWithin limit (code_into t r go).result
-code_within t (got code next) go (within h) k = k code next h
-code_within t (refused f p) go (within_refused h) k = head_refused h
+-- behind a part that writes the table
+filled_then : {limit : ℕ} {A B : Type 0} (r : Result (Read A) Refusal) (t : List ℕ) (go : Read A → List ℕ → Filled (Result (Read B) Refusal))
+    → ToldWithin limit r → ((x : Read A) (t' : List ℕ) → x.next ≤ limit → ToldWithin limit (go x t').result)
+    → ToldWithin limit (on_filled (filled r t) go).result
+filled_then (Ok x) t go h k = k x t h
+filled_then (Err q) t go h k = h
 
-row_within : {limit : ℕ} (t : List ℕ) (i code : ℕ) (r : Parsed NodeLine) → Within limit r → HeadWithin limit (line_into t i code r).result
-row_within t i code (got l next) (within h) = head_read h
-row_within t i code (refused f p) (within_refused h) = head_refused h
-
-cut_within : {limit : ℕ} (at : ℕ) (r : Parsed ℕ) → at ≤ limit → Within limit r → EndsWithin limit (too_deep at r)
-cut_within at (got v next) h w = ends_refused h
-cut_within at (refused f p) h (within_refused l) = ends_refused l
-
-module _ (limit : ℕ) (part : ℕ → ℕ → ℕ → List ℕ → Filled Expression)
-    (each : (lets i at : ℕ) (t : List ℕ) → at ≤ limit → EndsWithin limit (part lets i at t).result) where
-  second_within : (inside i : ℕ) (r : Expression) (t : List ℕ) → EndsWithin limit r → EndsWithin limit (second_into part inside i r t).result
-  second_within inside i (expression.Read next count) t (ends_read h) = each inside count next _ h
-  second_within inside i (expression.Refused q) t w = w
-
-  parts_within : (lets i : ℕ) (h : NodeHead) (t : List ℕ) → HeadWithin limit h → EndsWithin limit (parts_into part lets i h t).result
-  parts_within lets i (head.Read Leaf next) t (head_read l) = ends_read l
-  parts_within lets i (head.Read One next) t (head_read l) = each lets (i + 1) next t l
-  parts_within lets i (head.Read (Two b) next) t (head_read l) = second_within (lets + b) i _ _ (each lets (i + 1) next t l)
-  parts_within lets i (head.Refused r) t (head_refused l) = ends_refused l
+parts_within : (limit : ℕ) (part : ℕ → ℕ → ℕ → List ℕ → Noded) (each : (lets i at : ℕ) (t : List ℕ) → at ≤ limit → ToldWithin limit (part lets i at t).result)
+    → (lets i : ℕ) (p : Parts) (at : ℕ) (t : List ℕ) → at ≤ limit → ToldWithin limit (parts_into part lets i p at t).result
+parts_within limit part each lets i Leaf at t h = h
+parts_within limit part each lets i One at t h = each lets (i + 1) at t h
+parts_within limit part each lets i (Two b) at t h =
+    let f : Noded = part lets (i + 1) at t in
+    filled_then f.result f.table
+    (λ x t'. part (lets_inside lets b) x.value x.next (set t' (4 * i + 3) x.value))
+    (each lets (i + 1) at t h)
+    (λ x t' l. each (lets_inside lets b) x.value x.next (set t' (4 * i + 3) x.value) l)
 
 module _ (image types : List ℕ) (structs : ℕ) where
   kind_within : (at : ℕ) → at ≤ length image → Within (length image) (kind_code image types at)
@@ -126,8 +120,8 @@ module _ (image types : List ℕ) (structs : ℕ) where
       within_then (below fault.Unknown lets image at) _ (below_within image fault.Unknown lets at h) (λ k at₁ l. within l)
   line_within lets first op.Let at f h = within h
   line_within lets first op.Malloc at f h =
-      within_then (mapped (pointer_code 0) (read_target image structs (length types) at)) _
-      (within_mapped (pointer_code 0) (read_target image structs (length types) at) (target_within image structs (length types) at h))
+      within_then (mapped (pointer_code Checked) (read_target image structs (length types) at)) _
+      (within_mapped (pointer_code Checked) (read_target image structs (length types) at) (target_within image structs (length types) at h))
       (λ k at₁ l. within l)
   line_within lets first op.Unchecked at f h = within h
   line_within lets first op.Cast at f h = within_then (kind_code image types at) _ (kind_within at h) (λ k at₁ l. within l)
@@ -136,36 +130,22 @@ module _ (image types : List ℕ) (structs : ℕ) where
   line_within lets first op.Field at f h = within_then (number image at) _ (number_within image at h) (λ k at₁ l. within l)
   line_within lets first op.Unknown at f h = within_refused f
 
-  head_within : (lets i at : ℕ) (t : List ℕ) → at ≤ length image → HeadWithin (length image) (head_into image types structs lets i at t).result
+  head_within : (lets i at : ℕ) (t : List ℕ) → at ≤ length image → ToldWithin (length image) (head_into image types structs lets i at t).result
   unfolding head_into
   head_within lets i at t h =
-      code_within t (number image at) _ (number_within image at h)
+      read_then t (number image at) _ (number_within image at h)
       (λ code next l. choose_case
-      (λ (f : Filled NodeHead). HeadWithin (length image) f.result) (leb 2048 i) _ _
-      (head_refused h)
-      (row_within t i code (line_of image types structs lets at (operation_of code) next) (line_within lets at (operation_of code) next h l)))
+      (λ (f : Headed). ToldWithin (length image) f.result) (leb 2048 i) _ _
+      h
+      (read_then t (line_of image types structs lets at (operation_of code) next) _ (line_within lets at (operation_of code) next h l) (λ row at₁ m. m)))
 
   pub node_within : (deep lets i at : ℕ) (t : List ℕ) → at ≤ length image
-      → EndsWithin (length image) (node_into image types structs deep lets i at t).result
+      → ToldWithin (length image) (node_into image types structs deep lets i at t).result
   unfolding node_into
-  node_within zero lets i at t h = cut_within at (number image at) h (number_within image at h)
+  node_within zero lets i at t h = read_then t (number image at) _ (number_within image at h) (λ _ _ _. h)
   node_within (suc deep) lets i at t h =
-      parts_within (length image) (node_into image types structs deep) (node_within deep) lets i _ _ (head_within lets i at t h)
-
--- what the code knows of an offset or a place that it was answered
-module _ (image types : List ℕ) (structs deep lets i at : ℕ) (t : List ℕ) (h : at ≤ length image) {r : Expression} {t' : List ℕ}
-    (e : filled r t' ≡ node_into image types structs deep lets i at t) where
-  answer_within : EndsWithin (length image) r
-  answer_within = rw (ap (λ (f : Filled Expression). f.result) e) (node_within image types structs deep lets i at t h)
-
-  pub read_within : {next count : ℕ} → r ≡ expression.Read next count → next ≤ length image
-  read_within q = go (rw q at answer_within)
-    where
-      go : {next count : ℕ} → EndsWithin (length image) (expression.Read next count) → next ≤ length image
-      go (ends_read l) = l
-
-  pub refused_within : {q : Refusal} → r ≡ expression.Refused q → q.place ≤ length image
-  refused_within q = go (rw q at answer_within)
-    where
-      go : {q : Refusal} → EndsWithin (length image) (expression.Refused q) → q.place ≤ length image
-      go (ends_refused l) = l
+      let f : Headed = head_into image types structs lets i at t in
+      filled_then f.result f.table
+      (λ x t'. parts_into (node_into image types structs deep) lets i x.value x.next t')
+      (head_within lets i at t h)
+      (λ x t' l. parts_within (length image) (node_into image types structs deep) (node_within deep) lets i x.value x.next t' l)

@@ -1,9 +1,8 @@
 -- Reading parts one after another: "the first fault in reading order counts". Each part is read at an offset of the image.
-use Rattle.std.specs.Prelude.{ℕ, zero, suc, ◌+◌, List, [], ◌∷◌, ltb}
+use Rattle.std.specs.Prelude.{ℕ, zero, suc, ◌+◌, List, [], ◌∷◌, ltb, Ok, Err}
 use Rattle.choice.specs.Choice.{choose}
-use Rattle.numbers.specs.Reading.{number_at}
-use Rattle.numbers.specs.declared.Number.{Number}
-use Rattle.numbers.specs.declared.Number.TheVariants.{Value, Ends, Unfit}
+use Rattle.numbers.specs.Reading.{Number, number_at}
+use Rattle.numbers.specs.declared.Unread.TheVariants.{Ends, Unfit}
 use Rattle.calculus.specs.declared.Fault.{Fault}
 use Rattle.calculus.specs.declared.Fault.TheVariants as fault
 
@@ -19,9 +18,9 @@ then_read (refused f p) go = refused f p
 
 -- faults 1 and 2
 abbrev pub as_reading : Number → Parsed ℕ
-as_reading (Value v next) = got v next
-as_reading (Ends p) = refused fault.Ends p
-as_reading (Unfit p) = refused fault.Unfit p
+as_reading (Ok r) = got r.value r.next
+as_reading (Err (Ends p)) = refused fault.Ends p
+as_reading (Err (Unfit p)) = refused fault.Unfit p
 
 -- a number
 unfoldable pub number : (image : List ℕ) (at : ℕ) → Parsed ℕ

@@ -1,16 +1,29 @@
 // The cell table: for each heap cell its address, its value and the code of its word type, at a stride of 3.
 ghost use Rattle.std.specs.Prelude.{◌+◌, ◌≤◌, ◌≡◌};
 ghost use Rattle.image.specs.Cells.{read_address};
-ghost use Rattle.image.specs.Answers.{limited};
+ghost use Rattle.image.specs.Answers.{told};
 ghost use Rattle.image.specs.Filled.{filled};
-ghost use Rattle.image.specs.Tabling.{celled, read_row, cell_set, cells_into, placed_into};
+ghost use Rattle.image.specs.Tabling.{read_row, cells_into, placed_into};
 
+use crate::CellRow;
+use crate::lent_rows::put_row;
 use crate::number::{read_below, read_limited};
-use crate::{Celled, Limited, Passed};
 use calculus::{Fault, Refusal};
 use cells::word;
+use numbers::Read;
 
-// The count of cells at `at`, and the cells behind it: the count, and the offset behind them.
+// What is known while the cells are read: the image, how many words the heap has, and the codes of the word types, which are the first
+// `known` of `types`.
+#[derive(Clone, Copy)]
+struct CellReader<'a> {
+    image: &'a [u8],
+    words: u64,
+    types: &'a [u64],
+    known: u64,
+}
+
+// The count of cells at `at`, and the cells behind it, in a heap of `words` words: the count, and the offset behind them.
+#[tactic(auto, using(crate::proofs::Numbers::below_small), unfolding(crate::specs::Tabling::placed_into))]
 pub fn read_placed(
     cells: &mut [u64],
     image: &[u8],
@@ -18,125 +31,81 @@ pub fn read_placed(
     words: u64,
     types: &[u64],
     known: u64,
-) -> Limited
+) -> Result<Read<u64>, Refusal>
     ensures { filled result cells.new ≡ placed_into image.now words types.now known at cells.old }
 {
-    match read_below(image, at, 4097, Fault::Limit) {
-        Limited::Value { value, next } => match read_cells(
-            cells, image, next, words, types, known, value,
-        ) {
-            Passed::To(end) => Limited::Value { value, next: end },
-            Passed::Refused(refusal) => Limited::Refused(refusal),
-        },
-        Limited::Refused(refusal) => Limited::Refused(refusal),
-    }
+    let count = read_below(image, at, 4097, Fault::Limit)?;
+    let reader = CellReader {
+        image,
+        words,
+        types,
+        known,
+    };
+    let next = reader.read_cells(cells, count.next, count.value as usize)?;
+    Ok(Read { next, ..count })
 }
 
-// `count` cells from `first` on, in a heap of `words` words; the codes of the word types are the first `known` of `types`.
-fn read_cells(
-    cells: &mut [u64],
-    image: &[u8],
-    first: usize,
-    words: u64,
-    types: &[u64],
-    known: u64,
-    count: u64,
-) -> Passed
-    requires { count ≤ 4096 }
-    ensures { filled result cells.new ≡ cells_into image.now words types.now known count 0 0 first cells.old }
-{
-    let mut left = count;
-    let mut before: u64 = 0;
-    let mut i: usize = 0;
-    let mut at = first;
-    while left > 0 {
-        match read_cell(image, at, words, before, known) {
-            Celled::Cell {
-                address,
-                value,
-                number,
-                next,
-            } => {
-                put_cell(cells, i, address, value, word(types, number as usize));
-                left -= 1;
-                before = address;
-                i += 1;
-                at = next;
-            }
-            Celled::Refused(refusal) => return Passed::Refused(refusal),
+impl CellReader<'_> {
+    // `count` cells from `first` on: the offset behind them.
+    #[tactic(auto, using(crate::proofs::Turns::cells_turn, crate::proofs::AnswerBounds::row_small), unfolding(crate::specs::Tabling::cells_into))]
+    fn read_cells(&self, cells: &mut [u64], first: usize, count: usize) -> Result<usize, Refusal>
+        requires { count ≤ 4096 }
+        ensures { filled result cells.new ≡ cells_into self.now.image.now self.now.words self.now.types.now self.now.known count 0 0 first cells.old }
+    {
+        let mut before = 0;
+        let mut at = first;
+        for i in 0..count {
+            let read = self.read_cell(at, before)?;
+            let cell = read.value;
+            let code = word(self.types, cell.number as usize);
+            put_row(cells, i, [cell.address, cell.value, code]);
+            before = cell.address;
+            at = read.next;
         }
+        Ok(at)
     }
-    Passed::To(at)
-}
 
-// Cell i of the table; past the table's end nothing changes. One test serves the cell.
-fn put_cell(cells: &mut [u64], i: usize, address: u64, value: u64, code: u64)
-    ensures { cells.new ≡ cell_set cells.old i address value code }
-{
-    if i < cells.len() / 3 {
-        cells[3 * i] = address;
-        cells[3 * i + 1] = value;
-        cells[3 * i + 2] = code;
-    }
-}
-
-// The cell at `at` behind the address `before`.
-fn read_cell(image: &[u8], at: usize, words: u64, before: u64, known: u64) -> Celled
-    requires { before ≤ words }
-    ensures { result ≡ celled (read_row image.now words known before at) }
-{
-    match read_address(image, at, words, before) {
-        Limited::Value {
-            value: address,
-            next: at1,
-        } => match read_limited(image, at1) {
-            Limited::Value { value, next: at2 } => match read_below(
-                image,
-                at2,
-                known,
-                Fault::Unknown,
-            ) {
-                Limited::Value {
-                    value: number,
-                    next,
-                } => Celled::Cell {
-                    address,
-                    value,
-                    number,
-                    next,
-                },
-                Limited::Refused(refusal) => Celled::Refused(refusal),
+    // The cell at `at` behind the address `before`.
+    #[tactic(auto, unfolding(crate::specs::Tabling::read_row))]
+    fn read_cell(&self, at: usize, before: u64) -> Result<Read<CellRow>, Refusal>
+        requires { before ≤ self.now.words }
+        ensures { result ≡ told (read_row self.now.image.now self.now.words self.now.known before at) }
+    {
+        let address = self.read_address(at, before)?;
+        let value = read_limited(self.image, address.next)?;
+        let number = read_below(self.image, value.next, self.known, Fault::Unknown)?;
+        Ok(Read {
+            value: CellRow {
+                address: address.value,
+                value: value.value,
+                number: number.value,
             },
-            Limited::Refused(refusal) => Celled::Refused(refusal),
-        },
-        Limited::Refused(refusal) => Celled::Refused(refusal),
+            next: number.next,
+        })
     }
-}
 
-// The address behind `before` by the gap at `at`.
-fn read_address(image: &[u8], at: usize, words: u64, before: u64) -> Limited
-    requires { before ≤ words }
-    ensures { result ≡ limited (read_address image.now words before at) }
-{
-    match read_limited(image, at) {
-        Limited::Value { value, next } => {
-            if value == 0 {
-                return Limited::Refused(Refusal {
-                    fault: Fault::Repeat,
-                    place: at,
-                });
-            }
-            if words - before < value {
-                return Limited::Refused(Refusal {
-                    fault: Fault::Beyond,
-                    place: at,
-                });
-            }
-            Limited::Value {
-                value: before + value,
-                next,
-            }
+    // The address behind `before` by the gap at `at`.
+    #[tactic(auto, unfolding(crate::specs::Cells::read_address))]
+    fn read_address(&self, at: usize, before: u64) -> Result<Read<u64>, Refusal>
+        requires { before ≤ self.now.words }
+        ensures { result ≡ told (read_address self.now.image.now self.now.words before at) }
+    {
+        let gap = read_limited(self.image, at)?;
+        if gap.value == 0 {
+            return Err(Refusal {
+                fault: Fault::Repeat,
+                place: at,
+            });
         }
-        Limited::Refused(refusal) => Limited::Refused(refusal),
+        if self.words - before < gap.value {
+            return Err(Refusal {
+                fault: Fault::Beyond,
+                place: at,
+            });
+        }
+        Ok(Read {
+            value: before + gap.value,
+            ..gap
+        })
     }
 }

@@ -1,253 +1,203 @@
 // The expression, into the lent node table: four numbers a node, in the order of the nodes.
 ghost use Rattle.std.specs.Prelude.{◌+◌, ◌<◌, ◌≤◌, ◌≡◌};
-ghost use Rattle.image.specs.Answers.{limited};
-ghost use Rattle.image.specs.Parsing.{number};
+ghost use Rattle.image.specs.Answers.{with_next, told};
 ghost use Rattle.image.specs.Filled.{filled};
-ghost use Rattle.image.specs.Filling.{rowed, argument_row, kind_row, written, kind_code, literal, line_of, too_deep, head_into, node_into, expression_into};
-ghost use Rattle.image.specs.declared.NodeRow.TheVariants.{Row};
+ghost use Rattle.image.specs.Filling.{node_row, kind_code, literal, line_of, head_into, node_into, expression_into};
 
+use crate::lent_rows::put_row;
 use crate::number::{read_below, read_limited};
 use crate::target::read_target;
-use crate::{Expression, Limited, NodeHead, NodeRow, Parts};
+use crate::{NodeRow, Parts};
 use calculus::{Fault, Operation, Refusal};
-use cells::{put, word};
+use cells::{Mode, put, word};
+use numbers::Read;
 
-// The expression that starts at `at`. It is read in the part of the image that starts there, and its places are carried back.
+// What is known while the nodes are read: the part of the image that they stand in, the codes of the word types, and how many structs
+// there are.
+#[derive(Clone, Copy)]
+struct NodeReader<'a> {
+    image: &'a [u8],
+    types: &'a [u64],
+    structs: u64,
+}
+
+// The expression that starts at `at`: how many nodes it has. It is read in the part of the image that starts there, and its places are
+// carried back.
+#[tactic(auto, using(crate::proofs::Tail::nothing_read, crate::proofs::Tail::part_within), unfolding(crate::specs::Filling::expression_into))]
 pub fn read_expression(
     table: &mut [u64],
     image: &[u8],
     types: &[u64],
     structs: u64,
     at: usize,
-) -> Expression
+) -> Result<Read<usize>, Refusal>
     ensures { filled result table.new ≡ expression_into image.now types.now structs at table.old }
 {
     if image.len() < at {
-        return Expression::Refused(Refusal {
+        return Err(Refusal {
             fault: Fault::Ends,
             place: at,
         });
     }
-    match read_node(table, &image[at..], types, structs, 64, 0, 0, 0) {
-        Expression::Read { next, count } => Expression::Read {
-            next: at + next,
-            count,
-        },
-        Expression::Refused(refusal) => {
-            let fault = refusal.fault;
-            Expression::Refused(Refusal {
-                fault,
-                place: at + refusal.place,
-            })
-        }
+    let reader = NodeReader {
+        image: &image[at..],
+        types,
+        structs,
+    };
+    match reader.read_node(table, 64, 0, 0, 0) {
+        Ok(count) => Ok(Read {
+            next: at + count.next,
+            ..count
+        }),
+        Err(refusal) => Err(Refusal {
+            place: at + refusal.place,
+            ..refusal
+        }),
     }
 }
 
-// The node at `at` with its parts, at most `depth` deep and inside `lets` lets, into the rows from its own number on.
-fn read_node(
-    table: &mut [u64],
-    image: &[u8],
-    types: &[u64],
-    structs: u64,
-    depth: usize,
-    lets: u64,
-    node: usize,
-    at: usize,
-) -> Expression
-    requires { lets + depth ≤ 64 }
-    ensures { filled result table.new ≡ node_into image.now types.now structs depth lets node at table.old }
-{
-    if depth == 0 {
-        return too_deep(image, at);
-    }
-    let left = depth - 1;
-    match read_head(table, image, types, structs, lets, node, at) {
-        NodeHead::Read { parts, next } => match parts {
-            Parts::Leaf => Expression::Read {
-                next,
-                count: node + 1,
-            },
-            Parts::One => read_node(table, image, types, structs, left, lets, node + 1, next),
+impl NodeReader<'_> {
+    // The node at `at` with its parts, at most `depth` deep and inside `lets` lets, into the rows from its own number on: how many nodes
+    // were read up to there.
+    #[tactic(auto, using(crate::proofs::AnswerBounds::head_small), unfolding(crate::specs::Filling::node_into))]
+    fn read_node(
+        &self,
+        table: &mut [u64],
+        depth: usize,
+        lets: u64,
+        node: usize,
+        at: usize,
+    ) -> Result<Read<usize>, Refusal>
+        requires { lets + depth ≤ 64 }
+        ensures { filled result table.new ≡ node_into self.now.image.now self.now.types.now self.now.structs depth lets node at table.old }
+    {
+        if depth == 0 {
+            // Its code is read, since a fault of the number itself goes first.
+            read_limited(self.image, at)?;
+            return Err(Refusal {
+                fault: Fault::Limit,
+                place: at,
+            });
+        }
+        let left = depth - 1;
+        let head = self.read_head(table, lets, node, at)?;
+        match head.value {
+            Parts::Leaf => Ok(Read {
+                value: node + 1,
+                next: head.next,
+            }),
+            Parts::One => self.read_node(table, left, lets, node + 1, head.next),
             Parts::Two { binds } => {
-                let first = read_node(table, image, types, structs, left, lets, node + 1, next);
-                match first {
-                    Expression::Read { next, count } => {
-                        put(table, 4 * node + 3, count as u64);
-                        let inside = lets + binds;
-                        read_node(table, image, types, structs, left, inside, count, next)
-                    }
-                    Expression::Refused(refusal) => Expression::Refused(refusal),
-                }
-            }
-        },
-        NodeHead::Refused(refusal) => Expression::Refused(refusal),
-    }
-}
-
-// A node that is too deep: its code is read, since a fault of the number itself goes first.
-fn too_deep(image: &[u8], at: usize) -> Expression
-    ensures { result ≡ too_deep at (number image.now at) }
-{
-    match read_limited(image, at) {
-        Limited::Value { value, next } => Expression::Refused(Refusal {
-            fault: Fault::Limit,
-            place: at,
-        }),
-        Limited::Refused(refusal) => Expression::Refused(refusal),
-    }
-}
-
-// The node at `at` without its parts, into its row. One node too many is told before its code is looked at.
-fn read_head(
-    table: &mut [u64],
-    image: &[u8],
-    types: &[u64],
-    structs: u64,
-    lets: u64,
-    node: usize,
-    at: usize,
-) -> NodeHead
-    ensures { filled result table.new ≡ head_into image.now types.now structs lets node at table.old }
-{
-    match read_limited(image, at) {
-        Limited::Value { value, next } => {
-            if 2048 <= node {
-                return NodeHead::Refused(Refusal {
-                    fault: Fault::Limit,
-                    place: at,
-                });
-            }
-            let operation = Operation::from(value);
-            match read_row(image, types, structs, lets, at, operation, next) {
-                NodeRow::Row {
-                    argument,
-                    kind,
-                    parts,
-                    next,
-                } => {
-                    write_row(table, node, value, argument, kind);
-                    NodeHead::Read { parts, next }
-                }
-                NodeRow::Refused(refusal) => NodeHead::Refused(refusal),
+                let first = self.read_node(table, left, lets, node + 1, head.next)?;
+                put(table, 4 * node + 3, first.value as u64);
+                let inside = lets + u64::from(binds);
+                self.read_node(table, left, inside, first.value, first.next)
             }
         }
-        Limited::Refused(refusal) => NodeHead::Refused(refusal),
+    }
+
+    // The node at `at` without its parts, into its row, whose second part, if it has one, is not reached yet. One node too many is told
+    // before its code is looked at.
+    #[tactic(auto, unfolding(crate::specs::Filling::head_into))]
+    fn read_head(
+        &self,
+        table: &mut [u64],
+        lets: u64,
+        node: usize,
+        at: usize,
+    ) -> Result<Read<Parts>, Refusal>
+        ensures { filled result table.new ≡ head_into self.now.image.now self.now.types.now self.now.structs lets node at table.old }
+    {
+        let code = read_limited(self.image, at)?;
+        if 2048 <= node {
+            return Err(Refusal {
+                fault: Fault::Limit,
+                place: at,
+            });
+        }
+        let read = self.read_row(lets, at, Operation::from(code.value), code.next)?;
+        let row = read.value;
+        put_row(table, node, [code.value, row.argument, row.kind, 0]);
+        Ok(Read {
+            value: row.parts,
+            next: read.next,
+        })
+    }
+
+    // What stands at `at`, behind the code of a node of this operation, which is at `first`.
+    #[tactic(auto, unfolding(crate::specs::Filling::line_of))]
+    fn read_row(
+        &self,
+        lets: u64,
+        first: usize,
+        operation: Operation,
+        at: usize,
+    ) -> Result<Read<NodeRow>, Refusal>
+        ensures { result ≡ told (line_of self.now.image.now self.now.types.now self.now.structs lets first operation at) }
+    {
+        let known = self.types.len() as u64;
+        match operation {
+            Operation::Literal => self.read_literal(at),
+            Operation::Variable => {
+                let variable = read_below(self.image, at, lets, Fault::Unknown)?;
+                Ok(row(variable.value, 0, Parts::Leaf, variable.next))
+            }
+            Operation::Let => Ok(row(0, 0, Parts::Two { binds: true }, at)),
+            Operation::Malloc => {
+                let target = read_target(self.image, at, self.structs, known, Mode::Checked)?;
+                Ok(row(0, target.value, Parts::Leaf, target.next))
+            }
+            Operation::Unchecked => Ok(row(0, 0, Parts::One, at)),
+            Operation::Cast => {
+                let kind = self.read_kind(at)?;
+                Ok(row(0, kind.value, Parts::One, kind.next))
+            }
+            Operation::Read => Ok(row(0, 0, Parts::One, at)),
+            Operation::Acts(_) => Ok(row(0, 0, Parts::Two { binds: false }, at)),
+            Operation::Field => {
+                let field = read_limited(self.image, at)?;
+                Ok(row(field.value, 0, Parts::One, field.next))
+            }
+            Operation::Unknown => Err(Refusal {
+                fault: Fault::Unknown,
+                place: first,
+            }),
+        }
+    }
+
+    // A literal's value and word type.
+    #[tactic(auto, unfolding(crate::specs::Filling::literal))]
+    fn read_literal(&self, at: usize) -> Result<Read<NodeRow>, Refusal>
+        ensures { result ≡ told (literal self.now.image.now self.now.types.now at) }
+    {
+        let value = read_limited(self.image, at)?;
+        let kind = self.read_kind(value.next)?;
+        Ok(row(value.value, kind.value, Parts::Leaf, kind.next))
+    }
+
+    // The word type whose number is at `at`, by its packed code.
+    #[tactic(auto, unfolding(crate::specs::Filling::kind_code))]
+    fn read_kind(&self, at: usize) -> Result<Read<u64>, Refusal>
+        ensures { result ≡ told (kind_code self.now.image.now self.now.types.now at) }
+    {
+        let number = read_below(self.image, at, self.types.len() as u64, Fault::Unknown)?;
+        Ok(Read {
+            value: word(self.types, number.value as usize),
+            ..number
+        })
     }
 }
 
-// The row of a node, whose second part, if it has one, is not reached yet; past the table's end nothing changes. One test serves the row.
-fn write_row(table: &mut [u64], node: usize, code: u64, argument: u64, kind: u64)
-    ensures { table.new ≡ written table.old node code argument kind }
+// What stands behind a node's code, with the offset behind it.
+fn row(argument: u64, kind: u64, parts: Parts, next: usize) -> Read<NodeRow>
+    ensures { result ≡ with_next (node_row argument kind parts) next }
 {
-    if node < table.len() / 4 {
-        table[4 * node] = code;
-        table[4 * node + 1] = argument;
-        table[4 * node + 2] = kind;
-        table[4 * node + 3] = 0;
-    }
-}
-
-// What stands at `at`, behind the code of a node of this operation, which is at `first`.
-fn read_row(
-    image: &[u8],
-    types: &[u64],
-    structs: u64,
-    lets: u64,
-    first: usize,
-    operation: Operation,
-    at: usize,
-) -> NodeRow
-    ensures { result ≡ rowed (line_of image.now types.now structs lets first operation at) }
-{
-    match operation {
-        Operation::Literal => read_literal(image, types, at),
-        Operation::Variable => argument_row(
-            read_below(image, at, lets, Fault::Unknown),
-            Parts::Leaf,
-        ),
-        Operation::Let => plain_row(Parts::Two { binds: 1 }, at),
-        Operation::Malloc => kind_row(
-            0,
-            read_target(image, at, structs, types.len() as u64, 0),
-            Parts::Leaf,
-        ),
-        Operation::Unchecked => plain_row(Parts::One, at),
-        Operation::Cast => kind_row(0, read_kind(image, types, at), Parts::One),
-        Operation::Read => plain_row(Parts::One, at),
-        Operation::Acts(_) => plain_row(Parts::Two { binds: 0 }, at),
-        Operation::Field => argument_row(read_limited(image, at), Parts::One),
-        Operation::Unknown => NodeRow::Refused(Refusal {
-            fault: Fault::Unknown,
-            place: first,
-        }),
-    }
-}
-
-// A literal's value and word type.
-fn read_literal(image: &[u8], types: &[u64], at: usize) -> NodeRow
-    ensures { result ≡ rowed (literal image.now types.now at) }
-{
-    match read_limited(image, at) {
-        Limited::Value { value, next } => kind_row(
-            value,
-            read_kind(image, types, next),
-            Parts::Leaf,
-        ),
-        Limited::Refused(refusal) => NodeRow::Refused(refusal),
-    }
-}
-
-// The word type whose number is at `at`, by its packed code.
-fn read_kind(image: &[u8], types: &[u64], at: usize) -> Limited
-    ensures { result ≡ limited (kind_code image.now types.now at) }
-{
-    match read_below(image, at, types.len() as u64, Fault::Unknown) {
-        Limited::Value { value, next } => Limited::Value {
-            value: word(types, value as usize),
-            next,
-        },
-        Limited::Refused(refusal) => Limited::Refused(refusal),
-    }
-}
-
-// A row with nothing but the node's code.
-fn plain_row(parts: Parts, next: usize) -> NodeRow
-    ensures { result ≡ Row 0 0 parts next }
-{
-    NodeRow::Row {
-        argument: 0,
-        kind: 0,
-        parts,
-        next,
-    }
-}
-
-// A row with the number that was read as its argument.
-fn argument_row(argument: Limited, parts: Parts) -> NodeRow
-    ensures { result ≡ argument_row argument parts }
-{
-    match argument {
-        Limited::Value { value, next } => NodeRow::Row {
-            argument: value,
-            kind: 0,
-            parts,
-            next,
-        },
-        Limited::Refused(refusal) => NodeRow::Refused(refusal),
-    }
-}
-
-// A row with the number that was read as its kind.
-fn kind_row(argument: u64, kind: Limited, parts: Parts) -> NodeRow
-    ensures { result ≡ kind_row argument kind parts }
-{
-    match kind {
-        Limited::Value { value, next } => NodeRow::Row {
+    Read {
+        value: NodeRow {
             argument,
-            kind: value,
+            kind,
             parts,
-            next,
         },
-        Limited::Refused(refusal) => NodeRow::Refused(refusal),
+        next,
     }
 }

@@ -7,15 +7,15 @@ use mathlib.Core.List.{List}
 use Prim.Native.Nat.{ℕ, zero, suc, ◌+◌, ◌*◌, ◌%◌, ◌^◌, ◌<◌, ◌≤◌}
 use native.Mathlib.Nat.{one-mul, mod-lt, add_assoc}
 use native.Mathlib.Omega.{arith}
+use Rattle.std.proofs.Common.{Ok, Err}
 use lib.ListN.{length, get_or, drop, length-drop}
 use lib.Seq.{get_or-drop}
 use lib.Dec.{leb, ltb, eqb}
 use borrow.Author.Tests.{ltb-true, ltb-false, leb-false, eqb-true, eqb-false, lt-ltb, le-ltb, eq-eqb, ne_eqb}
 use Rattle.choice.specs.Choice.{choose}
 use Rattle.numbers.specs.Width.{Width, bits32}
-use Rattle.numbers.specs.Reading.{last_group, groups, number_of, number_at}
-use Rattle.numbers.specs.declared.Number.{Number}
-use Rattle.numbers.specs.declared.Number.TheVariants.{Value, Ends, Unfit}
+use Rattle.numbers.specs.Reading.{Number, good, last_group, groups, number_of, number_at}
+use Rattle.numbers.specs.declared.Unread.TheVariants.{Ends, Unfit}
 use Rattle.numbers.proofs.Reach.{reach, group_below, reach_top, reach_on, reach_more}
 
 -- a good number of width `w` at `at`
@@ -26,9 +26,9 @@ pub record Sound (w : Width) (image : List ℕ) (at value next : ℕ) : Type 0 w
 
 -- an answer from the group at `at` on, of a number that begins at `first` and is below `limit`
 data Told (image : List ℕ) (first at limit : ℕ) : Number → Type 0 where
-  good : {value next : ℕ} → at < next → next ≤ length image → value < limit → Told image first at limit (Value value next)
-  ends : Told image first at limit (Ends (length image))
-  unfit : Told image first at limit (Unfit first)
+  read : {value next : ℕ} → at < next → next ≤ length image → value < limit → Told image first at limit (good value next)
+  ends : Told image first at limit (Err (Ends (length image)))
+  unfit : Told image first at limit (Err (Unfit first))
 
 test_told : {image : List ℕ} {first at limit : ℕ} (t : Bool) (a b : Unit {0} → Number)
     → (t ≡ true → Told image first at limit (a tt)) → (t ≡ false → Told image first at limit (b tt)) → Told image first at limit (choose t a b)
@@ -40,11 +40,11 @@ last_told : (image : List ℕ) (first at limit weight sum b : ℕ) → at < leng
 unfolding last_group
 last_told image first at limit weight sum b i f =
     test_told (eqb b 0) _ _
-    (λ _. test_told (eqb first at) _ _ (λ _. good (omega arith) (omega arith) (omega arith)) (λ _. unfit))
-    (λ _. good (omega arith) (omega arith) f)
+    (λ _. test_told (eqb first at) _ _ (λ _. read (omega arith) (omega arith) (omega arith)) (λ _. unfit))
+    (λ _. read (omega arith) (omega arith) f)
 
 earlier : {image : List ℕ} {first at limit : ℕ} {r : Number} → Told image first (at + 1) limit r → Told image first at limit r
-earlier (good {next = next} l w f) = good {next = next} (omega arith) w f
+earlier (read {next = next} l w f) = read {next = next} (omega arith) w f
 earlier ends = ends
 earlier unfit = unfit
 
@@ -71,38 +71,38 @@ told top image first (suc more) at weight sum s =
 number_told : (w : Width) (image : List ℕ) (at : ℕ) → Told image at at (128 ^ w.more * (w.top + 1)) (number_of w image at)
 number_told w image at = rw one-mul at (told w.top image at w.more at 1 0 (omega arith))
 
-told_good : {image : List ℕ} {first at limit value next : ℕ} → Told image first at limit (Value value next)
+told_good : {image : List ℕ} {first at limit value next : ℕ} → Told image first at limit (good value next)
     → (at < next) × (next ≤ length image) × (value < limit)
-told_good (good l w f) = (l, w, f)
+told_good (read l w f) = (l, w, f)
 
-told_ends : {image : List ℕ} {first at limit place : ℕ} → Told image first at limit (Ends place) → place ≡ length image
+told_ends : {image : List ℕ} {first at limit place : ℕ} → Told image first at limit (Err (Ends place)) → place ≡ length image
 told_ends ends = refl
 
-told_unfit : {image : List ℕ} {first at limit place : ℕ} → Told image first at limit (Unfit place) → place ≡ first
+told_unfit : {image : List ℕ} {first at limit place : ℕ} → Told image first at limit (Err (Unfit place)) → place ≡ first
 told_unfit unfit = refl
 
 -- A good number ends behind its first byte and inside the image, and is below the width's limit.
-pub number_sound : (w : Width) (image : List ℕ) (at value next : ℕ) → number_of w image at ≡ Value value next → Sound w image at value next
+pub number_sound : (w : Width) (image : List ℕ) (at value next : ℕ) → number_of w image at ≡ good value next → Sound w image at value next
 number_sound w image at value next e =
     omega (arith, told_good (rw e at (number_told w image at)))
 
 -- Where the image ends inside a number, the place told is the image's length.
-pub number_ends : (w : Width) (image : List ℕ) (at place : ℕ) → number_of w image at ≡ Ends place → place ≡ length image
+pub number_ends : (w : Width) (image : List ℕ) (at place : ℕ) → number_of w image at ≡ Err (Ends place) → place ≡ length image
 number_ends w image at place e = told_ends (rw e at (number_told w image at))
 
 -- Where a number is too large or not shortest, the place told is its first byte.
-pub number_unfit : (w : Width) (image : List ℕ) (at place : ℕ) → number_of w image at ≡ Unfit place → place ≡ at
+pub number_unfit : (w : Width) (image : List ℕ) (at place : ℕ) → number_of w image at ≡ Err (Unfit place) → place ≡ at
 number_unfit w image at place e = told_unfit (rw e at (number_told w image at))
 
 -- A good number of 32 bits is below 2^32.
-pub number_32 : (image : List ℕ) (at value next : ℕ) → number_at image at ≡ Value value next → value < 2 ^ 32
+pub number_32 : (image : List ℕ) (at value next : ℕ) → number_at image at ≡ good value next → value < 2 ^ 32
 number_32 image at value next e = (number_sound bits32 image at value next e).fits
 
 -- the answer of a reading behind `k` bytes, with its places counted from the front
 abbrev pub shifted : ℕ → Number → Number
-shifted k (Value value next) = Value value (k + next)
-shifted k (Ends place) = Ends (k + place)
-shifted k (Unfit place) = Unfit (k + place)
+shifted k (Ok r) = good r.value (k + r.next)
+shifted k (Err (Ends place)) = Err (Ends (k + place))
+shifted k (Err (Unfit place)) = Err (Unfit (k + place))
 
 -- what is shifted on both sides of a choice is shifted in the choice
 carry : (k : ℕ) (t : Bool) (a b a' b' : Unit {0} → Number) → shifted k (a tt) ≡ a' tt → shifted k (b tt) ≡ b' tt
@@ -125,8 +125,8 @@ inside_test k at image = go (ltb at (length (drop k image))) refl
     go true e = sym (lt-ltb (k + at) (length image) (omega (arith, ltb-true at (length (drop k image)) e, length-drop k image)))
     go false e = sym (le-ltb (k + at) (length image) (omega (arith, ltb-false at (length (drop k image)) e, length-drop k image)))
 
-ends_behind : (k : ℕ) (image : List ℕ) → k ≤ length image → Ends (k + length (drop k image)) ≡ Ends (length image)
-ends_behind k image h = ap Ends (omega (arith, length-drop k image))
+ends_behind : (k : ℕ) (image : List ℕ) → k ≤ length image → shifted k (Err (Ends (length (drop k image)))) ≡ Err (Ends (length image))
+ends_behind k image h = ap (λ p. Err (Ends p)) (omega (arith, length-drop k image))
 
 last_behind : (k first at weight sum b : ℕ) → shifted k (last_group first at weight sum b) ≡ last_group (k + first) (k + at) weight sum b
 unfolding last_group

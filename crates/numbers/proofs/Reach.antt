@@ -1,7 +1,7 @@
 -- How far the groups of a number reach: bounds on what they are worth, over plain numbers. The rest is linear.
 -- Assumes nothing.
-use mathlib.Core.Path.{◌≡◌}
-use Prim.Native.Nat.{ℕ, zero, suc, ◌+◌, ◌*◌, ◌^◌, ◌<◌, ◌≤◌}
+use mathlib.Core.Path.{◌≡◌, refl}
+use Prim.Native.Nat.{ℕ, zero, suc, ◌+◌, ◌*◌, ◌%◌, ◌^◌, ◌<◌, ◌≤◌}
 use native.Mathlib.Nat.{pow-zero, pow-succ', mul-one, mul_comm, mul_assoc, mul-le-mul, le-mul_of_pos_right, pow-le-pow_right}
 use native.Mathlib.Omega.{arith}
 use lib.Arith.{digits_lt}
@@ -27,3 +27,7 @@ pub reach_more : (weight left top : ℕ) {n : ℕ} → n ≤ top + 1 → weight 
 reach_more weight left top h =
     rw (← reach_on weight left top)
     (mul-le-mul (le-mul_of_pos_right (weight * 128) (pow-le-pow_right {n = 128} (omega arith) {i = 0} {j = left} (omega arith))) h)
+
+-- seven bits of a group are worth at most 127 times its weight
+pub digit_small : (b weight : ℕ) → (b % 128 * weight ≡ b % 128 * weight) × (b % 128 * weight ≤ 127 * weight)
+digit_small b weight = (refl, let h : b % 128 ≤ 127 = omega arith in grind arith)
