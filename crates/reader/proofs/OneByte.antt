@@ -5,12 +5,11 @@ use mathlib.Core.List.{List}
 use native.Mathlib.Omega.{arith}
 use lib.ListN.{length, get_or}
 use borrow.Author.Tests.{lt-ltb, lt-leb, eq-eqb, ne_eqb}
-use Rattle.numbers.specs.Reading.{last_group, groups}
-use Rattle.numbers.specs.declared.Number.TheVariants.{Value}
+use Rattle.numbers.specs.Reading.{good, last_group, groups}
 use Rattle.image.specs.Parsing.{got, number}
 
 -- a sole group is its own worth
-sole : (at b : ℕ) → last_group at at 1 0 b ≡ Value b (at + 1)
+sole : (at b : ℕ) → last_group at at 1 0 b ≡ good b (at + 1)
 unfolding last_group
 sole at zero = rw (eq-eqb at at refl)
 sole at (suc b) = let e : 0 + suc b * 1 ≡ suc b = omega arith in rw (e, ne_eqb (suc b) 0 (λ q. omega arith))

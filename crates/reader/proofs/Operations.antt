@@ -24,13 +24,12 @@ use Rattle.image.specs.Parsing.{Parsed, got, refused, then_read, number, below}
 use Rattle.image.specs.Tables.{read_target}
 use Rattle.image.specs.Nodes.{Head, leaf, part, read_kind, head_of, read_parts}
 use Rattle.image.specs.Answers.{mapped, pointer_code}
-use Rattle.image.specs.Filled.{Filled}
+use Rattle.image.specs.Tabling.{on_read}
 use Rattle.image.proofs.KnownKinds.{entry_small, known_pointer}
-use Rattle.reader.specs.Cursors.{cursor_number, around_number, deeper}
-use Rattle.reader.specs.Reads.{number_then, literal_rows, variable_rows, malloc_rows, OneLine, one_line, operand_of, one_into, operation_rows}
-use Rattle.reader.proofs.Cursors.{lets_around, offset_cursor}
-use Rattle.reader.proofs.Around.{deeper_is, block_is}
-use Rattle.reader.proofs.Puts.{behind_is}
+use Rattle.reader.specs.Cursors.{standing}
+use Rattle.reader.specs.Reads.{Reading, PartReader, literal_rows, variable_rows, malloc_rows, one_line, line_of, one_into, one_rows, operation_rows}
+use Rattle.reader.specs.declared.Line.{Line}
+use Rattle.reader.proofs.Cursors.{behind_is}
 use Rattle.reader.proofs.Ending.{Ending, ending, ending_none, number_ending, below_ending, target_ending}
 use Rattle.reader.proofs.Into.{StandsAt, RowRoom, IntoRows, stopped, leaf_into, one_into_lem}
 use Rattle.reader.proofs.Parts.{EachPart, first_stands, act_into, let_into}
@@ -47,32 +46,32 @@ kind_there κs n s = rw (code_there κs n) (round_trip s)
 
 -- numbers that a node goes on behind, or stops at
 module _ (image types : List ℕ) {t : List ℕ} {b : Bool} {i p at from : ℕ} where
-  pub number_into : {P : ℕ → Type 0} (r : Parsed ℕ) (go : ℕ → ℕ → Filled ℕ) (D : Parsed ℕ → Parsed Expr)
+  pub read_into : {A : Type 0} {P : A → Type 0} (r : Parsed A) (go : A → ℕ → Reading) (D : Parsed A → Parsed Expr)
       → ((f : Fault) (q : ℕ) → D (refused f q) ≡ refused f q) → Ending (length image) from P r
-      → ((v next : ℕ) → from < next → next ≤ length image → P v → IntoRows image types t b i p at (go v next) (D (got v next)))
-      → IntoRows image types t b i p at (number_then t r go) (D r)
-  number_into (got v next) go D s (ending l w x) k = k v next l w x
-  number_into (refused f q) go D s (ending_none w) k = rw (s f q) (stopped w refl)
+      → ((v : A) (next : ℕ) → from < next → next ≤ length image → P v → IntoRows image types t b i p at (go v next) (D (got v next)))
+      → IntoRows image types t b i p at (on_read r t go) (D r)
+  read_into (got v next) go D s (ending l w x) k = k v next l w x
+  read_into (refused f q) go D s (ending_none w) k = rw (s f q) (stopped w refl)
 
-  target_into : {P : Target → Type 0} (f : Target → ℕ) (r : Parsed Target) (go : ℕ → ℕ → Filled ℕ) (D : Parsed Target → Parsed Expr)
+  target_into : {P : Target → Type 0} (f : Target → ℕ) (r : Parsed Target) (go : ℕ → ℕ → Reading) (D : Parsed Target → Parsed Expr)
       → ((f : Fault) (q : ℕ) → D (refused f q) ≡ refused f q) → Ending (length image) from P r
       → ((ω : Target) (next : ℕ) → from < next → next ≤ length image → P ω → IntoRows image types t b i p at (go (f ω) next) (D (got ω next)))
-      → IntoRows image types t b i p at (number_then t (mapped f r) go) (D r)
+      → IntoRows image types t b i p at (on_read (mapped f r) t go) (D r)
   target_into f (got ω next) go D s (ending l w x) k = k ω next l w x
   target_into f (refused g q) go D s (ending_none w) k = rw (s g q) (stopped w refl)
 
-  operand_into : {P : ℕ → Type 0} (part' : (around cursor : ℕ) → List ℕ → Filled ℕ) (around cursor : ℕ) (r : Parsed ℕ) (line : ℕ → OneLine)
+  line_into : {P : ℕ → Type 0} (part' : PartReader) (lets : ℕ) (inside : Bool) (r : Parsed ℕ) (line : ℕ → Line)
       (D : Parsed ℕ → Parsed Expr) → ((f : Fault) (q : ℕ) → D (refused f q) ≡ refused f q) → Ending (length image) from P r
       → ((v next : ℕ) → from < next → next ≤ length image → P v
-      → IntoRows image types t b i p at (one_into part' around cursor (got (line v) next) t) (D (got v next)))
-      → IntoRows image types t b i p at (one_into part' around cursor (then_read r (λ v next. got (line v) next)) t) (D r)
-  operand_into part' around cursor (got v next) line D s (ending l w x) k = k v next l w x
-  operand_into part' around cursor (refused f q) line D s (ending_none w) k = rw (s f q) (stopped w refl)
+      → IntoRows image types t b i p at (one_into part' lets inside (standing at i p) (got (line v) next) t) (D (got v next)))
+      → IntoRows image types t b i p at (one_into part' lets inside (standing at i p) (then_read r (λ v next. got (line v) next)) t) (D r)
+  line_into part' lets inside (got v next) line D s (ending l w x) k = k v next l w x
+  line_into part' lets inside (refused f q) line D s (ending_none w) k = rw (s f q) (stopped w refl)
 
 -- A node behind its code, where the tables are those of the image and each part goes into the rows.
-module _ (image : List ℕ) (tables : Tables) (types_few : length tables.types ≤ 256) (structs_few : length tables.structs ≤ 256)
-    (small : (n : ℕ) → Small (get_or tables.types n Int)) (deep : ℕ)
-    (part' : (around cursor : ℕ) → List ℕ → Filled ℕ) (get : ℕ → ℕ → ℕ → Parsed Expr) (each : EachPart image (map packed tables.types) deep part' get)
+module _ (image : List ℕ) (near : length image < 274877906944) (tables : Tables) (types_few : length tables.types ≤ 256)
+    (structs_few : length tables.structs ≤ 256) (small : (n : ℕ) → Small (get_or tables.types n Int)) (deep : ℕ)
+    (part' : PartReader) (get : ℕ → ℕ → ℕ → Parsed Expr) (each : EachPart image (map packed tables.types) deep part' get)
     (lets : ℕ) (b : Bool) (low : lets + suc deep < 128) (t : List ℕ) (i p at : ℕ)
     (at_node : StandsAt image i p at) (room : RowRoom image t) (more : i < 2048) where
   there : {next : ℕ} → at < next → next ≤ length image → p < whole_rows t
@@ -84,107 +83,100 @@ module _ (image : List ℕ) (tables : Tables) (types_few : length tables.types �
 
   literal_in : (start : ℕ) → at < start → start ≤ length image
       → IntoRows image (map packed tables.types) t b i p at
-      (literal_rows image (length tables.types) (around_number (suc deep) lets b) (cursor_number at i p) start t)
+      (literal_rows image (length tables.types) b (standing at i p) start t)
       (Whole (head_of image tables lets at op.Literal start))
   unfolding literal_rows head_of read_parts nodes
   literal_in start l w =
-      number_into image (map packed tables.types) (number image start) _
+      read_into image (map packed tables.types) (number image start) _
       (λ r. Whole (then_read r (λ n at₁. then_read (read_kind image tables at₁) (λ κ at₂. got (leaf (lit n κ)) at₂))))
       (λ f q. refl) (number_ending image start w)
-      (λ n at₁ l₁ w₁ x. number_into image (map packed tables.types) (below fault.Unknown (length tables.types) image at₁) _
+      (λ n at₁ l₁ w₁ x. read_into image (map packed tables.types) (below fault.Unknown (length tables.types) image at₁) _
       (λ r. Whole (then_read (then_read r (λ k next. got (get_or tables.types k Int) next)) (λ κ at₂. got (leaf (lit n κ)) at₂)))
       (λ f q. refl) (below_ending image at₁ w₁ (length tables.types))
-      (λ k at₂ l₂ w₂ x₂. rw (behind_is at i p at₂ (omega arith) (omega (arith, at_node.low)))
-      (leaf_into image (map packed tables.types) (suc deep) lets b t i p at at_node room more
+      (λ k at₂ l₂ w₂ x₂. rw (behind_is at i p at₂ more (omega arith))
+      (leaf_into image (map packed tables.types) near b t i p at at_node room more
       (lit n (get_or tables.types k Int)) task.Literal k n refl (omega arith) w₂
       (literal_written (map packed tables.types) t b i p (there (omega arith) w₂) (omega arith) k n (omega arith)
       (kind_there tables.types k (small k))))))
 
   variable_in : (start : ℕ) → at < start → start ≤ length image
       → IntoRows image (map packed tables.types) t b i p at
-      (variable_rows image (around_number (suc deep) lets b) (cursor_number at i p) start t)
+      (variable_rows image lets b (standing at i p) start t)
       (Whole (head_of image tables lets at op.Variable start))
   unfolding variable_rows head_of read_parts nodes
   variable_in start l w =
-      rw (lets_around (suc deep) lets b (omega arith))
-      (number_into image (map packed tables.types) (below fault.Unknown lets image start) _
+      read_into image (map packed tables.types) (below fault.Unknown lets image start) _
       (λ r. Whole (then_read r (λ k at₁. got (leaf (var k)) at₁)))
       (λ f q. refl) (below_ending image start w lets)
-      (λ k at₁ l₁ w₁ x. rw (behind_is at i p at₁ (omega arith) (omega (arith, at_node.low)))
-      (leaf_into image (map packed tables.types) (suc deep) lets b t i p at at_node room more (var k) task.Variable k 0 refl (omega arith) w₁
-      (variable_written (map packed tables.types) t b i p (there (omega arith) w₁) (omega arith) k (omega arith)))))
+      (λ k at₁ l₁ w₁ x. rw (behind_is at i p at₁ more (omega arith))
+      (leaf_into image (map packed tables.types) near b t i p at at_node room more (var k) task.Variable k 0 refl (omega arith) w₁
+      (variable_written (map packed tables.types) t b i p (there (omega arith) w₁) (omega arith) k (omega arith))))
 
   malloc_in : (start : ℕ) → at < start → start ≤ length image
       → IntoRows image (map packed tables.types) t b i p at
-      (malloc_rows image (length tables.types) (length tables.structs) (around_number (suc deep) lets b) (cursor_number at i p) start t)
+      (malloc_rows image (length tables.types) (length tables.structs) b (standing at i p) start t)
       (Whole (head_of image tables lets at op.Malloc start))
   unfolding malloc_rows head_of read_parts nodes
   malloc_in start l w =
-      target_into image (map packed tables.types) (pointer_code 0) (read_target image (length tables.structs) (length tables.types) start) _
+      target_into image (map packed tables.types) (pointer_code Checked) (read_target image (length tables.structs) (length tables.types) start) _
       (λ r. Whole (then_read r (λ ω at₁. got (leaf (malloc ω)) at₁)))
       (λ f q. refl) (target_ending image start w (length tables.structs) (length tables.types))
-      (λ ω at₁ l₁ w₁ x. rw (behind_is at i p at₁ (omega arith) (omega (arith, at_node.low)))
-      (leaf_into image (map packed tables.types) (suc deep) lets b t i p at at_node room more
+      (λ ω at₁ l₁ w₁ x. rw (behind_is at i p at₁ more (omega arith))
+      (leaf_into image (map packed tables.types) near b t i p at at_node room more
       (malloc ω) task.Malloc 0 (packed (pointer Checked ω)) refl (omega arith) w₁
       (malloc_written (map packed tables.types) t b i p (there (omega arith) w₁) (omega arith) ω
       (entry_small structs_few types_few (known_pointer Checked x)))))
 
   -- a node with one part, which starts at `next`
-  one_in : (o : One) (k : Task) (slot datum : ℕ) (b' : Bool) (within : ℕ) (next : ℕ)
+  one_in : (o : One) (k : Task) (slot datum : ℕ) (b' : Bool) (next : ℕ)
       → slot < 512 → work_of (map packed tables.types) k slot datum ≡ apply o → inside_mode b' ≡ inside o (inside_mode b)
-      → within ≡ around_number deep lets b' → at < next → next ≤ length image
+      → at < next → next ≤ length image
       → IntoRows image (map packed tables.types) t b i p at
-      (one_into part' (around_number (suc deep) lets b) (cursor_number at i p) (got (one_line k slot datum within) next) t)
+      (one_into part' lets b (standing at i p) (got (one_line k slot datum b') next) t)
       (then_read (get lets (suc i) next) (λ e m. got (one o e) m))
-  one_in o k slot datum b' within next s work mode around l w =
-      rw (around, behind_is at i p next (omega arith) (omega (arith, at_node.low)))
-      (one_into_lem image (map packed tables.types) (suc deep) lets b t i p at at_node room more {o = o} {r = get lets (suc i) next} k slot datum s work mode l
+  one_in o k slot datum b' next s work mode l w =
+      rw (behind_is at i p next more (omega arith))
+      (one_into_lem image (map packed tables.types) near b t i p at at_node room more {o = o} {r = get lets (suc i) next} k slot datum s work mode l
       (each.goes lets b' (suc i) p next t (omega arith)
-      (first_stands image (map packed tables.types) deep part' get each lets b low t i p at at_node room more l w) room))
+      (first_stands image (map packed tables.types) near deep part' get each lets b low t i p at at_node room more l w) room))
 
   cast_in : (start : ℕ) → at < start → start ≤ length image
       → IntoRows image (map packed tables.types) t b i p at
-      (one_into part' (around_number (suc deep) lets b) (cursor_number at i p)
-      (operand_of image (length tables.types) (around_number (suc deep) lets b) at op.Cast start) t)
+      (one_rows image (length tables.types) part' lets b (standing at i p) op.Cast start t)
       (Whole (head_of image tables lets at op.Cast start))
-  unfolding operand_of head_of read_parts
+  unfolding one_rows line_of head_of read_parts
   cast_in start l w =
-      operand_into image (map packed tables.types) part' (around_number (suc deep) lets b) (cursor_number at i p)
-      (below fault.Unknown (length tables.types) image start) (λ n. one_line task.Cast n 0 (deeper (around_number (suc deep) lets b)))
+      line_into image (map packed tables.types) part' lets b
+      (below fault.Unknown (length tables.types) image start) (λ n. one_line task.Cast n 0 b)
       (λ r. Whole (then_read (then_read r (λ n next. got (get_or tables.types n Int) next)) (λ κ at₁. got (part (cast κ)) at₁)))
       (λ f q. refl) (below_ending image start w (length tables.types))
-      (λ n next l₁ w₁ x. one_in (cast (get_or tables.types n Int)) task.Cast n 0 b (deeper (around_number (suc deep) lets b)) next (omega arith)
-      (rw (kind_there tables.types n (small n))) refl (deeper_is deep lets b (omega arith) (omega arith)) (omega arith) w₁)
+      (λ n next l₁ w₁ x. one_in (cast (get_or tables.types n Int)) task.Cast n 0 b next (omega arith)
+      (rw (kind_there tables.types n (small n))) refl (omega arith) w₁)
 
   field_in : (start : ℕ) → at < start → start ≤ length image
       → IntoRows image (map packed tables.types) t b i p at
-      (one_into part' (around_number (suc deep) lets b) (cursor_number at i p)
-      (operand_of image (length tables.types) (around_number (suc deep) lets b) at op.Field start) t)
+      (one_rows image (length tables.types) part' lets b (standing at i p) op.Field start t)
       (Whole (head_of image tables lets at op.Field start))
-  unfolding operand_of head_of read_parts
+  unfolding one_rows line_of head_of read_parts
   field_in start l w =
-      operand_into image (map packed tables.types) part' (around_number (suc deep) lets b) (cursor_number at i p)
-      (number image start) (λ f. one_line task.Field 0 f (deeper (around_number (suc deep) lets b)))
+      line_into image (map packed tables.types) part' lets b (number image start) (λ f. one_line task.Field 0 f b)
       (λ r. Whole (then_read r (λ f at₁. got (part (field f)) at₁)))
       (λ f q. refl) (number_ending image start w)
-      (λ f next l₁ w₁ x. one_in (field f) task.Field 0 f b (deeper (around_number (suc deep) lets b)) next (omega arith)
-      refl refl (deeper_is deep lets b (omega arith) (omega arith)) (omega arith) w₁)
+      (λ f next l₁ w₁ x. one_in (field f) task.Field 0 f b next (omega arith) refl refl (omega arith) w₁)
 
   -- each node behind its code, and an unknown one
-  pub operation_in : (o : Operation) (start : ℕ) → at < start → start ≤ length image → at < 274877906944
+  pub operation_in : (o : Operation) (start : ℕ) → at < start → start ≤ length image
       → IntoRows image (map packed tables.types) t b i p at
-      (operation_rows image (length tables.types) (length tables.structs) part' (around_number (suc deep) lets b) (cursor_number at i p) o start t)
+      (operation_rows image (length tables.types) (length tables.structs) part' lets b (standing at i p) o start t)
       (Whole (head_of image tables lets at o start))
-  unfolding operand_of head_of read_parts
-  operation_in op.Literal start l w s = literal_in start l w
-  operation_in op.Variable start l w s = variable_in start l w
-  operation_in op.Let start l w s = let_into image (map packed tables.types) deep part' get each lets b low t i p at at_node room more start l w
-  operation_in op.Malloc start l w s = malloc_in start l w
-  operation_in op.Unchecked start l w s =
-      one_in unchecked task.Unchecked 0 0 true _ start (omega arith) refl refl (block_is deep lets b (omega arith) (omega arith)) l w
-  operation_in op.Cast start l w s = cast_in start l w
-  operation_in op.Read start l w s =
-      one_in read task.Read 0 0 b _ start (omega arith) refl refl (deeper_is deep lets b (omega arith) (omega arith)) l w
-  operation_in (op.Acts o) start l w s = act_into image (map packed tables.types) deep part' get each lets b low t i p at at_node room more o start l w
-  operation_in op.Field start l w s = field_in start l w
-  operation_in op.Unknown start l w s = rw (offset_cursor at i p s) (stopped at_node.within refl)
+  unfolding one_rows line_of head_of read_parts
+  operation_in op.Literal start l w = literal_in start l w
+  operation_in op.Variable start l w = variable_in start l w
+  operation_in op.Let start l w = let_into image (map packed tables.types) near deep part' get each lets b low t i p at at_node room more start l w
+  operation_in op.Malloc start l w = malloc_in start l w
+  operation_in op.Unchecked start l w = one_in unchecked task.Unchecked 0 0 true start (omega arith) refl refl l w
+  operation_in op.Cast start l w = cast_in start l w
+  operation_in op.Read start l w = one_in read task.Read 0 0 b start (omega arith) refl refl l w
+  operation_in (op.Acts o) start l w = act_into image (map packed tables.types) near deep part' get each lets b low t i p at at_node room more o start l w
+  operation_in op.Field start l w = field_in start l w
+  operation_in op.Unknown start l w = stopped at_node.within refl

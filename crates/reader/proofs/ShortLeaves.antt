@@ -1,71 +1,74 @@
--- A leaf that is read by its bytes is read as the definition's reader of nodes reads it.
-use Prim.Native.Nat.{ℕ, ◌+◌, ◌≤◌, ◌<◌}
-use mathlib.Core.Path.{◌≡◌, sym, ◌∙◌, ap}
-use mathlib.Core.Bool.{true, false}
+-- A leaf that is read by its bytes is read as any node is.
+use Prim.Native.Nat.{ℕ, zero, suc, ◌+◌, ◌-◌, ◌≤◌, ◌<◌}
+use mathlib.Core.Path.{◌≡◌, ◌∙◌, ap}
+use mathlib.Core.Bool.{Bool}
 use mathlib.Core.List.{List}
 use native.Mathlib.Omega.{arith}
-use lib.Dec.{eqb}
-use lib.ListN.{length, get_or}
-use borrow.Author.Tests.{lt-ltb}
-use Rattle.choice.specs.Choice.{choose}
+use lib.ListN.{length, get_or, take, drop, length-drop}
+use lib.Seq.{take_all}
+use borrow.Author.Tests.{lt-ltb, lt-leb}
+use Rattle.std.proofs.lemmas.List.{get_or-drop}
 use Rattle.calculus.specs.Operations.{operation_of}
-use Rattle.tables.specs.Heads.{inside_bit}
 use Rattle.tables.specs.declared.Task.TheVariants as task
 use Rattle.image.specs.Parsing.{got, number, below}
-use Rattle.image.specs.Filled.{Filled}
-use Rattle.reader.specs.Cursors.{offset_in, nodes_in, behind_head, depth_in, lets_in}
-use Rattle.reader.specs.Reads.{row_put, literal_rows, variable_rows, operation_rows, node_rows, short_rows}
-use Rattle.reader.specs.Short.{LeafBytes, literal_bytes, variable_bytes, ShortLeaf}
+use Rattle.reader.specs.Cursors.{Standing, behind_head}
+use Rattle.reader.specs.Reads.{row_put, row_head, literal_rows, variable_rows, node_rows}
 use Rattle.reader.proofs.OneByte.{one_byte}
-use Rattle.reader.proofs.Steps.{by_operation}
 
--- the test was not passed
-pub not_passed : {A : Type 0} → false ≡ true → A
-not_passed e = let z : ◌≡◌ {A = ℕ} 0 1 = ap inside_bit e in absurd (omega arith)
+-- the bytes from an offset on
+abbrev bytes_from : List ℕ → (at : ℕ) → List ℕ
+bytes_from image at = take (length image - at) (drop at image)
 
--- what the tests say, with what was read by its own name
-module _ (image : List ℕ) (known around cursor : ℕ) {at code first : ℕ} (at_is : at ≡ offset_in cursor) (code_is : code ≡ get_or image at 0)
-    (first_is : first ≡ get_or image (at + 1) 0) (there : at + 3 ≤ length image) (level : depth_in around ≡ 0 → ⊥) (few : nodes_in cursor < 2048)
-    (one : first < 128) where
-  short_with : LeafBytes known (lets_in around) code first (get_or image (at + 2) 0) → ShortLeaf image known around cursor
-  short_with leaf =
-      record {
-        bytes_there = rw (← at_is) (omega arith);
-        level = omega arith;
-        few = few;
-        one = rw (← at_is, ← first_is) one;
-        leaf = rw (← at_is, ← code_is, ← first_is) leaf;
-      }
+module _ (image : List ℕ) (at : ℕ) where
+  all_there : bytes_from image at ≡ drop at image
+  all_there = take_all (length image - at) (drop at image) (omega (arith, length-drop at image))
 
-  pub short_literal : {n : ℕ} → code ≡ 0 → n ≡ get_or image (at + 2) 0 → n < 128 → n < known → ShortLeaf image known around cursor
-  short_literal z n-is l k = short_with (rw (z, ← n-is) (literal_bytes l k))
+  -- one of them is a number
+  number_there : (k : ℕ) → k < length (bytes_from image at) → get_or (bytes_from image at) k 0 < 128 → (j next : ℕ) → j ≡ at + k → next ≡ j + 1
+      → number image j ≡ got (get_or (bytes_from image at) k 0) next
+  number_there k l h j next e n =
+      let same : get_or (bytes_from image at) k 0 ≡ get_or image (at + k) 0 =
+          ap (λ (l : List ℕ). get_or l k 0) all_there ∙ get_or-drop at image k 0 in
+      let there : at + k < length image = omega (arith, ap length all_there, length-drop at image) in
+      rw (same, n, e) (one_byte image (at + k) there (omega arith))
 
-  pub short_variable : code ≡ 1 → first < lets_in around → ShortLeaf image known around cursor
-  short_variable z k = short_with (rw z (variable_bytes k))
+module _ (image : List ℕ) (known structs : ℕ) (deep lets : ℕ) (inside : Bool) (cursor : Standing) (t : List ℕ) where
+  -- a literal's code, its value and its word type, in the bytes from the cursor's offset on
+  pub short_literal : 3 ≤ length (bytes_from image cursor.offset) → get_or (bytes_from image cursor.offset) 0 0 ≡ 0
+      → get_or (bytes_from image cursor.offset) 1 0 < 128
+      → get_or (bytes_from image cursor.offset) 2 0 < 128 → get_or (bytes_from image cursor.offset) 2 0 < known → 0 < deep → cursor.nodes < 2048
+      → node_rows image known structs deep lets inside cursor t
+      ≡ row_put (behind_head cursor (cursor.offset + 3)) (row_head task.Literal inside (get_or (bytes_from image cursor.offset) 2 0) 0 cursor)
+      (get_or (bytes_from image cursor.offset) 1 0) t
+  unfolding node_rows literal_rows operation_of below
+  short_literal l c f s k d few =
+      let at : ℕ = cursor.offset in
+      let some : deep ≡ suc (deep - 1) = omega arith in
+      rw (
+        some,
+        number_there image at 0 (omega arith) (omega arith) at (at + 1) (omega arith) (omega arith),
+        lt-leb 2048 cursor.nodes few,
+        c,
+        number_there image at 1 (omega arith) f (at + 1) (at + 2) (omega arith) (omega arith),
+        number_there image at 2 (omega arith) s (at + 2) (at + 3) (omega arith) (omega arith),
+        lt-ltb (get_or (bytes_from image at) 2 0) known k,
+      )
 
--- a leaf behind its code
-leaf_rows : (image : List ℕ) (known structs : ℕ) (part : (around cursor : ℕ) → List ℕ → Filled ℕ) (around cursor : ℕ) (t : List ℕ) (at : ℕ) {a b c : ℕ}
-    → LeafBytes known (lets_in around) a b c → number image (at + 1) ≡ got b (at + 2) → (c < 128 → number image (at + 2) ≡ got c (at + 3))
-    → choose (eqb a 0)
-    (λ _. row_put around cursor (behind_head cursor (at + 3)) task.Literal c 0 b t)
-    (λ _. row_put around cursor (behind_head cursor (at + 2)) task.Variable b 0 0 t)
-    ≡ operation_rows image known structs part around cursor (operation_of a) (at + 1) t
-unfolding operation_of literal_rows variable_rows below
-leaf_rows image known structs part around cursor t at (literal_bytes {n = n} l k) e f = rw (e, f l, lt-ltb n known k)
-leaf_rows image known structs part around cursor t at (variable_bytes {k = k} l) e f = rw (e, lt-ltb k (lets_in around) l)
-
-code_small : {known lets a b c : ℕ} → LeafBytes known lets a b c → a < 128
-code_small (literal_bytes l k) = omega arith
-code_small (variable_bytes l) = omega arith
-
-pub short_read : (image : List ℕ) (known structs around cursor : ℕ) (t : List ℕ) → ShortLeaf image known around cursor
-    → short_rows image around cursor t ≡ node_rows image known structs (depth_in around) around cursor t
-short_read image known structs around cursor t s =
-    let at : ℕ = offset_in cursor in
-    let two : at + 1 + 1 ≡ at + 2 = omega arith in
-    let three : at + 2 + 1 ≡ at + 3 = omega arith in
-    let room = s.bytes_there in
-    leaf_rows image known structs (node_rows image known structs _) around cursor t at s.leaf
-    (one_byte image (at + 1) (omega arith) s.one ∙ ap (got (get_or image (at + 1) 0)) two)
-    (λ l. one_byte image (at + 2) (omega arith) l ∙ ap (got (get_or image (at + 2) 0)) three)
-    ∙ sym (by_operation image known structs around cursor t (one_byte image at (omega arith) (code_small s.leaf)) (λ z. omega (arith, s.level)) s.few)
+  -- a variable's code, and how many lets out it is bound
+  pub short_variable : 3 ≤ length (bytes_from image cursor.offset) → get_or (bytes_from image cursor.offset) 0 0 ≡ 1
+      → get_or (bytes_from image cursor.offset) 1 0 < 128
+      → get_or (bytes_from image cursor.offset) 1 0 < lets → 0 < deep → cursor.nodes < 2048
+      → node_rows image known structs deep lets inside cursor t
+      ≡ row_put (behind_head cursor (cursor.offset + 2)) (row_head task.Variable inside (get_or (bytes_from image cursor.offset) 1 0) 0 cursor) 0 t
+  unfolding node_rows variable_rows operation_of below
+  short_variable l c f k d few =
+      let at : ℕ = cursor.offset in
+      let some : deep ≡ suc (deep - 1) = omega arith in
+      rw (
+        some,
+        number_there image at 0 (omega arith) (omega arith) at (at + 1) (omega arith) (omega arith),
+        lt-leb 2048 cursor.nodes few,
+        c,
+        number_there image at 1 (omega arith) f (at + 1) (at + 2) (omega arith) (omega arith),
+        lt-ltb (get_or (bytes_from image at) 1 0) lets k,
+      )

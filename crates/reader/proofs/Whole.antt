@@ -7,14 +7,17 @@ use native.Mathlib.Omega.{arith}
 use native.Mathlib.Nat.{zero-add}
 use native.Mathlib.Numerals.{add-one}
 use lib.Dec.{ltb}
-use lib.ListN.{length, get_or, drop, length-drop}
+use lib.ListN.{length, get_or, take, drop, length-drop}
+use lib.Seq.{take_all}
 use borrow.Author.Tests.{le-ltb, ltb-true, ltb-false}
+use Rattle.std.proofs.Common.{Result, Ok, Err}
 use Rattle.choice.specs.Choice.{choose_told}
 use Rattle.cells.specs.Code.{packed, Small}
 use Rattle.cells.specs.declared.Mode.TheVariants.{Checked}
 use Rattle.cells.specs.declared.Kind.TheVariants.{Int}
 use Rattle.calculus.specs.Expr.{Expr, nodes}
 use Rattle.calculus.specs.declared.Fault.TheVariants as fault
+use Rattle.calculus.specs.declared.Refusal.{Refusal}
 use Rattle.numbers.specs.Reading.{groups}
 use Rattle.tables.specs.Heads.{head_number}
 use Rattle.tables.specs.Rows.{whole_rows, put_row, TaskRow}
@@ -27,18 +30,18 @@ use Rattle.image.specs.Content.{Tables}
 use Rattle.image.specs.Parsing.{Parsed, refused, number, carried}
 use Rattle.image.specs.Nodes.{read_head, read_node}
 use Rattle.image.specs.Image.{read_expr}
-use Rattle.image.specs.Filled.{Filled, filled, then_fill}
-use Rattle.reader.specs.Cursors.{cursor_number, around_number}
-use Rattle.reader.specs.Reads.{node_rows, expr_ended, most_rows, expression_rows}
+use Rattle.image.specs.Answers.{on_answer}
+use Rattle.image.specs.Filled.{Filled, filled}
+use Rattle.reader.specs.Cursors.{Standing, standing}
+use Rattle.reader.specs.Reads.{Reading, part_rows, expr_ended, expr_refused, most_rows, expression_rows}
 use Rattle.reader.specs.Told.{BehindKept, TellsRows, tells_expr, tells_refused, tells_short, RowsRead}
-use Rattle.reader.specs.declared.ExprRead.{ExprRead}
-use Rattle.reader.proofs.Cursors.{no_refusal, offset_cursor, nodes_cursor, rows_cursor, is_refusal_lem, fault_refusal, place_refusal}
-use Rattle.reader.proofs.Puts.{put_behind, behind_then}
-use Rattle.reader.proofs.Into.{RowRoom, IntoRows, into, stopped}
+use Rattle.reader.specs.declared.Expression.{Expression}
+use Rattle.reader.specs.declared.NotRead.{NotRead}
+use Rattle.reader.proofs.Into.{RowRoom, IntoRows, into, stopped, crossing_into, put_behind, behind_then}
 use Rattle.reader.proofs.Noded.{node_in_lem}
 
 -- an answer with the rows then
-abbrev Says : (types : List ℕ) (bytes : ℕ) (t : List ℕ) → Parsed Expr → Filled ExprRead → Type 0
+abbrev Says : (types : List ℕ) (bytes : ℕ) (t : List ℕ) → Parsed Expr → Filled (Result Expression NotRead) → Type 0
 Says types bytes t x F = TellsRows types bytes t F.table F.result x
 
 -- ---- behind the last node: the row that stops
@@ -51,24 +54,18 @@ held {types} {rows} {q = q} x there =
       stops = ap (λ (r : TaskRow). r.work) (row_written types rows q task.Stop false 0 0 0 0 there (omega arith) (omega arith) (omega arith));
     }
 
-ended_tells : {tail types t : List ℕ} {F : Filled ℕ} {r : Parsed Expr} (bytes at : ℕ) → length tail < 274877906944 → RowRoom tail t
-    → IntoRows tail types t false 0 0 0 F r → Says types bytes t (carried at r) (expr_ended at F.result F.table)
-ended_tells {types = types} {t} bytes at short room (into {e} {next} {q} {t'} few long end x front back) =
+ended_tells : {tail types t : List ℕ} {F : Reading} {r : Parsed Expr} (bytes at : ℕ) → RowRoom tail t
+    → IntoRows tail types t false 0 0 0 F r
+    → Says types bytes t (carried at r) (on_answer F.result (λ q. expr_refused at q F.table) (λ end. expr_ended at end F.table))
+ended_tells {types = types} {t} bytes at room (into {e} {next} {q} {t'} few long end x front back) =
     let f = rows_few x in
     let space = room.space (nodes e) (omega arith) (omega arith) in
     let there : q < whole_rows t' = rw front.long (omega arith) in
-    rw (
-      no_refusal next (0 + nodes e) q,
-      offset_cursor next (0 + nodes e) q (omega arith),
-      nodes_cursor next (0 + nodes e) q (omega arith),
-      rows_cursor next (0 + nodes e) q (omega arith),
-      zero-add,
-    )
+    rw zero-add
     (tells_expr {next = at + next} (held x there) (length_row t' q (head_number task.Stop false 0 0 0) 0 ∙ front.long)
     (subst (λ (n : ℕ). BehindKept n t (put_row t' q (head_number task.Stop false 0 0 0) 0)) (sym (add-one q))
     (behind_then back (omega arith) (put_behind t' q (head_number task.Stop false 0 0 0) 0))))
-ended_tells bytes at short room (stopped {f} {place} w e) =
-    rw (is_refusal_lem f place, fault_refusal f place, place_refusal f place (omega arith)) (tells_refused e)
+ended_tells bytes at room (stopped w e) = tells_refused e
 
 -- ---- the part of the image that starts at an offset
 nothing_left : (image : List ℕ) (at : ℕ) → length image < at → drop at image ≡ []
@@ -85,25 +82,24 @@ nothing_there image tables at h = let e : at + 0 ≡ at = omega arith in rw (not
 
 -- rows enough for the bytes are rows enough for the nodes
 roomy : {tail t : List ℕ} (bytes : ℕ) → length tail ≡ bytes → most_rows bytes ≤ whole_rows t → RowRoom tail t
-roomy {tail} {t} bytes e =
-    choose_told (λ (n : ℕ). n ≤ whole_rows t → RowRoom tail t) (ltb bytes 2048) _ _
-    (λ _ l. record { space = λ n a b. omega arith })
-    (λ _ l. record { space = λ n a b. omega arith })
+roomy bytes e l = record { space = λ n a b. omega arith }
 
 module _ (image : List ℕ) (tables : Tables) (at : ℕ) (t : List ℕ) (not_long : length image ≤ 16384) (types_few : length tables.types ≤ 256)
     (structs_few : length tables.structs ≤ 256) (small : (n : ℕ) → Small (get_or tables.types n Int)) where
   -- the node at the front of the part, and then the row that stops
   read_tells : most_rows (length image - at) ≤ whole_rows t
-      → Says (map packed tables.types) (length image - at) t (read_expr image tables at)
-      (then_fill (node_rows (drop at image) (length tables.types) (length tables.structs) 64 (around_number 64 0 false) (cursor_number 0 0 0) t)
-      (expr_ended at))
+      → let F : Reading = part_rows (drop at image) (length tables.types) (length tables.structs) 64 0 false (standing 0 0 0) t in
+      Says (map packed tables.types) (length image - at) t (read_expr image tables at)
+      (on_answer F.result (λ q. expr_refused at q F.table) (λ end. expr_ended at end F.table))
   unfolding read_expr
   read_tells l =
       let long = length-drop at image in
-      ended_tells (length image - at) at (omega (arith, long)) (roomy (length image - at) long l)
-      (node_in_lem (drop at image) tables (omega (arith, long)) types_few structs_few small 64 0 false 0 0 0 t (omega arith)
-      (record { few = omega arith; passed = omega arith; within = omega arith; low = omega arith })
-      (roomy (length image - at) long l))
+      let near : length (drop at image) < 274877906944 = omega (arith, long) in
+      let room : RowRoom (drop at image) t = roomy (length image - at) long l in
+      ended_tells (length image - at) at room
+      (crossing_into (drop at image) (map packed tables.types) near (omega arith)
+      (node_in_lem (drop at image) near tables types_few structs_few small 64 0 false 0 0 0 t (omega arith)
+      (record { few = omega arith; passed = omega arith; within = omega arith; low = omega arith }) room))
 
   expression_tells : Says (map packed tables.types) (length image - at) t (read_expr image tables at)
       (expression_rows image (length tables.types) (length tables.structs) at t)
@@ -118,7 +114,7 @@ module _ (image : List ℕ) (tables : Tables) (at : ℕ) (t : List ℕ) (not_lon
       (λ l. read_tells (ltb-false (whole_rows t) (most_rows (length image - at)) l))))
 
 -- What the code ensures follows from what it answers.
-pub rows_read : {image : List ℕ} {known structs at : ℕ} {t : List ℕ} {r : ExprRead} {t' : List ℕ}
+pub rows_read : {image : List ℕ} {known structs at : ℕ} {t : List ℕ} {r : Result Expression NotRead} {t' : List ℕ}
     → filled r t' ≡ expression_rows image known structs at t → RowsRead image known structs at t r t'
 rows_read {image} {known} {structs} {at} {t} {r} {t'} e =
     record {
@@ -128,3 +124,21 @@ rows_read {image} {known} {structs} {at} {t} {r} {t'} e =
           (rw (types_are, structs_are) (sym e))
           (expression_tells image tables at t not_long (rw types_are types_few) (rw structs_are structs_few) small);
     }
+
+-- a part up to the end is all that is left
+tail_whole : (image : List ℕ) (at : ℕ) → take (length image - at) (drop at image) ≡ drop at image
+tail_whole image at = take_all (length image - at) (drop at image) (omega (arith, length-drop at image))
+
+-- what is answered where the node at the front of the part was read
+pub part_told : (image : List ℕ) (known structs at : ℕ) (t : List ℕ) → length image ≤ 16384 → at ≤ length image
+    → most_rows (length image - at) ≤ whole_rows t → {r : Result Standing Refusal} {t' : List ℕ}
+    → filled r t' ≡ part_rows (take (length image - at) (drop at image)) known structs 64 0 false (standing 0 0 0) t
+    → expression_rows image known structs at t ≡ on_answer r (λ q. expr_refused at q t') (λ end. expr_ended at end t')
+unfolding expression_rows
+part_told image known structs at t short in_image enough e =
+    rw (
+      le-ltb 16384 (length image) short,
+      le-ltb (length image) at in_image,
+      le-ltb (whole_rows t) (most_rows (length image - at)) enough,
+    )
+    (ap (λ (F : Reading). on_answer F.result (λ q. expr_refused at q F.table) (λ end. expr_ended at end F.table)) (sym (rw (tail_whole image at) at e)))

@@ -1,36 +1,69 @@
--- Numbers that cross the recursive call: where reading stands (rows, 13 bits; nodes, 12 bits; the offset, 38 bits), a refusal (its place, 38
--- bits; its fault's number, 4 bits; and bit 63, which no cursor has), and what is around a node (the depth that is left, 7 bits; whether it
--- lies inside an unchecked block, 1 bit; the lets around it, 7 bits). A number that doesn't fit its field is cut to it.
-use Rattle.std.specs.Prelude.{ℕ, ◌+◌, ◌-◌, ◌*◌, ◌/◌, ◌%◌, Bool, true, List, [], ◌∷◌, eqb, leb, get_or}
+-- What crosses the recursive call, each as one number: where reading stands (rows, 13 bits; nodes, 12 bits; the offset above them), what is
+-- around a node (the depth that is left, 7 bits; whether it lies inside an unchecked block, 1 bit; the lets around it above them), and an
+-- answer (where reading stands, or with bit 63 a refusal: its place, 38 bits, and its fault's number, 4 bits). What doesn't fit is cut.
+use Rattle.std.specs.Prelude.{ℕ, zero, suc, ◌+◌, ◌*◌, ◌/◌, ◌%◌, ◌^◌, Bool, List, [], ◌∷◌, eqb, ltb, get_or, Option, Some, None, Result, Ok, Err}
+use Rattle.std.specs.Int.{from_bool}
+use Rattle.choice.specs.Choice.{choose}
 use Rattle.calculus.specs.Answers.{fault_number}
 use Rattle.calculus.specs.declared.Fault.{Fault}
 use Rattle.calculus.specs.declared.Fault.TheVariants.{Ends, Unfit, Format, Limit, Unknown, Repeat, Beyond, Behind, NoRule, IllTyped}
-use Rattle.tables.specs.Heads.{inside_bit}
+use Rattle.calculus.specs.declared.Refusal.{Refusal}
+use Rattle.image.specs.Answers.{refusal}
 
--- ---- where reading stands
-unfoldable pub cursor_number : (offset nodes rows : ℕ) → ℕ
-cursor_number offset nodes rows = rows % 8192 + 8192 * (nodes % 4096) + 33554432 * (offset % 274877906944)
+-- ---- where reading stands: at an offset, behind so many nodes and rows
+pub record Standing : Type 0 where
+  pub offset : ℕ
+  pub nodes : ℕ
+  pub rows : ℕ
 
-unfoldable pub offset_in : (cursor : ℕ) → ℕ
-offset_in cursor = cursor / 33554432
+abbrev pub standing : (offset nodes rows : ℕ) → Standing
+standing offset nodes rows = record { offset = offset; nodes = nodes; rows = rows }
 
-unfoldable pub nodes_in : (cursor : ℕ) → ℕ
-nodes_in cursor = cursor / 8192 % 4096
+abbrev pub cursor_number : Standing → ℕ
+cursor_number s = s.rows + 8192 * s.nodes + 33554432 * s.offset
 
-unfoldable pub rows_in : (cursor : ℕ) → ℕ
-rows_in cursor = cursor % 8192
+abbrev pub standing_in : (number : ℕ) → Standing
+standing_in number = standing (number / 33554432) (number / 8192 % 4096) (number % 8192)
 
--- behind the head of the node at a cursor, which ends at `next`: one node more
-abbrev pub behind_head : (cursor next : ℕ) → ℕ
-behind_head cursor next = cursor_number next (nodes_in cursor + 1) (rows_in cursor)
+-- behind the head of the node there, which ends at `next`: one node more
+unfoldable pub behind_head : Standing → (next : ℕ) → Standing
+behind_head s next = standing (next % 274877906944) ((s.nodes + 1) % 4096) s.rows
 
--- ---- a refusal
-unfoldable pub refusal_number : Fault → (place : ℕ) → ℕ
-refusal_number f place = 9223372036854775808 + 274877906944 * fault_number f + place % 274877906944
+-- behind one row more
+unfoldable pub behind_row : Standing → Standing
+behind_row s = standing_in ((cursor_number s + 1) % 2 ^ 64)
 
-unfoldable pub is_refusal : (answer : ℕ) → Bool
-is_refusal answer = leb 9223372036854775808 answer
+-- ---- what is around a node: how deep it may nest, how many lets it is inside of, whether it lies inside an unchecked block
+pub record Surroundings : Type 0 where
+  pub depth : ℕ
+  pub lets : ℕ
+  pub inside : Bool
 
+abbrev pub surroundings : (depth lets : ℕ) → (inside : Bool) → Surroundings
+surroundings depth lets inside = record { depth = depth; lets = lets; inside = inside }
+
+abbrev pub around_number : Surroundings → ℕ
+around_number a = a.depth + 128 * from_bool a.inside + 256 * a.lets
+
+abbrev pub surroundings_in : (number : ℕ) → Surroundings
+surroundings_in number = surroundings (number % 128) (number / 256) (eqb (number / 128 % 2) 1)
+
+-- around a part of the node: one level less, if there is one
+abbrev pub less_deep : (depth lets : ℕ) → (inside : Bool) → Option Surroundings
+less_deep zero lets inside = None
+less_deep (suc depth) lets inside = Some (surroundings depth lets inside)
+
+abbrev pub deeper : Surroundings → Option Surroundings
+deeper a = less_deep a.depth a.lets a.inside
+
+-- around the body of a let
+abbrev pub more_lets : (lets : ℕ) → ℕ
+more_lets lets = (lets + 1) % 2 ^ 56
+
+abbrev pub under_let : Surroundings → Surroundings
+under_let a = surroundings a.depth (more_lets a.lets) a.inside
+
+-- ---- an answer
 -- the faults at their numbers; 0, and a number that none has, is the last one's
 abbrev pub fault_list : List Fault
 fault_list = IllTyped ∷ Ends ∷ Unfit ∷ Format ∷ Limit ∷ Unknown ∷ Repeat ∷ Beyond ∷ Behind ∷ NoRule ∷ []
@@ -38,31 +71,16 @@ fault_list = IllTyped ∷ Ends ∷ Unfit ∷ Format ∷ Limit ∷ Unknown ∷ Re
 unfoldable pub fault_of : (number : ℕ) → Fault
 fault_of number = get_or fault_list number IllTyped
 
-unfoldable pub fault_in : (answer : ℕ) → Fault
-fault_in answer = fault_of (answer / 274877906944 % 16)
+abbrev pub answer_number : Result Standing Refusal → ℕ
+answer_number (Ok s) = cursor_number s
+answer_number (Err q) = 9223372036854775808 + 274877906944 * fault_number q.fault + q.place % 274877906944
 
-unfoldable pub place_in : (answer : ℕ) → ℕ
-place_in answer = answer % 274877906944
+abbrev pub answer_in : (number : ℕ) → Result Standing Refusal
+answer_in number =
+    choose (ltb number 9223372036854775808)
+    (λ _. Ok (standing_in number))
+    (λ _. Err (refusal (fault_of (number / 274877906944 % 16)) (number % 274877906944)))
 
--- ---- what is around a node
-unfoldable pub around_number : (depth lets : ℕ) → (inside : Bool) → ℕ
-around_number depth lets inside = depth % 128 + 128 * inside_bit inside + 256 * (lets % 128)
-
-unfoldable pub depth_in : (around : ℕ) → ℕ
-depth_in around = around % 128
-
-unfoldable pub lets_in : (around : ℕ) → ℕ
-lets_in around = around / 256 % 128
-
-unfoldable pub block_in : (around : ℕ) → Bool
-block_in around = eqb (around / 128 % 2) 1
-
--- around a part of the node, the body of a let, the part of an unchecked block
-abbrev pub deeper : (around : ℕ) → ℕ
-deeper around = around_number (depth_in around - 1) (lets_in around) (block_in around)
-
-abbrev pub under_let : (around : ℕ) → ℕ
-under_let around = around_number (depth_in around - 1) (lets_in around + 1) (block_in around)
-
-abbrev pub in_block : (around : ℕ) → ℕ
-in_block around = around_number (depth_in around - 1) (lets_in around) true
+-- what comes out of the call
+unfoldable pub crossed : Result Standing Refusal → Result Standing Refusal
+crossed reading = answer_in (answer_number reading)

@@ -1,49 +1,41 @@
 // Numbers of an image that most often have one byte.
 ghost use Rattle.std.specs.Prelude.{◌≡◌};
 ghost use Rattle.calculus.specs.declared.Fault.TheVariants.{Unknown};
-ghost use Rattle.image.specs.Answers.{limited};
+ghost use Rattle.image.specs.Answers.{told};
 ghost use Rattle.image.specs.Parsing.{number, below};
 
 use calculus::{Fault, Refusal};
-use image::{Limited, read_limited};
+use image::read_limited;
+use numbers::Read;
 
 // The number at `at`: one byte is tried first.
-pub fn number_at(image: &[u8], at: usize) -> Limited
-    ensures { result ≡ limited (number image.now at) }
+#[inline(always)]
+#[tactic(auto, using(crate::proofs::OneByte::one_byte))]
+pub fn number_at(image: &[u8], at: usize) -> Result<Read<u64>, Refusal>
+    ensures { result ≡ told (number image.now at) }
 {
-    if at < image.len() {
-        let group = wide(image[at]);
-        if group < 128 {
-            return Limited::Value {
-                value: group,
-                next: at + 1,
-            };
-        }
+    if at < image.len() && image[at] < 128 {
+        return Ok(Read {
+            value: u64::from(image[at]),
+            next: at + 1,
+        });
     }
     read_limited(image, at)
 }
 
 // The number at `at`, below `limit`; another is unknown.
-pub fn below_at(image: &[u8], at: usize, limit: u64) -> Limited
-    ensures { result ≡ limited (below Unknown limit image.now at) }
+#[inline(always)]
+#[tactic(auto, unfolding(image::specs::Parsing::below))]
+pub fn below_at(image: &[u8], at: usize, limit: u64) -> Result<Read<u64>, Refusal>
+    ensures { result ≡ told (below Unknown limit image.now at) }
 {
-    match number_at(image, at) {
-        Limited::Value { value, next } => {
-            if value < limit {
-                Limited::Value { value, next }
-            } else {
-                Limited::Refused(Refusal {
-                    fault: Fault::Unknown,
-                    place: at,
-                })
-            }
-        }
-        Limited::Refused(refusal) => Limited::Refused(refusal),
+    let read = number_at(image, at)?;
+    if read.value < limit {
+        Ok(read)
+    } else {
+        Err(Refusal {
+            fault: Fault::Unknown,
+            place: at,
+        })
     }
-}
-
-pub fn wide(x: u8) -> u64
-    ensures { result ≡ x }
-{
-    x as u64
 }

@@ -1,185 +1,163 @@
 // Nodes without parts, and what stands before the part of a node with one: numbers behind a node's code, into its row.
-ghost use Rattle.std.specs.Prelude.{◌<◌, ◌≡◌, false};
+ghost use Rattle.std.specs.Prelude.{◌≡◌, Ok};
+ghost use Rattle.image.specs.Answers.{told};
 ghost use Rattle.image.specs.Filled.{filled};
-ghost use Rattle.reader.specs.Cursors.{is_refusal, refusal_number, depth_in};
-ghost use Rattle.reader.specs.Reads.{row_put, row_closed, literal_rows, variable_rows, malloc_rows, operand_of, as_operand};
-ghost use Rattle.reader.specs.declared.Operand.TheVariants.{Part};
+ghost use Rattle.reader.specs.Reads.{row_put, literal_rows, variable_rows, malloc_rows, line_of};
 
-use crate::Operand;
+use crate::around::Around;
 use crate::bytes::{below_at, number_at};
-use crate::cursor::{
-    behind_head, deeper, in_block, is_in_block, is_refusal, lets_of, nodes_of, refusal_number,
-    rows_of,
-};
+use crate::cursor::Cursor;
+use crate::{Line, RowReader};
 use calculus::{Fault, Operation, Refusal};
-use image::{Limited, read_target};
+use cells::Mode;
+use image::read_target;
+use numbers::Read;
 use tables::{Head, Task, put_row};
 
-// The row of the node at `cursor`, behind the rows up to `end`: where reading stands then.
-pub fn write_row(
-    rows: &mut [u64],
-    around: u64,
-    cursor: u64,
-    end: u64,
-    task: Task,
-    slot: usize,
-    left: usize,
-    datum: u64,
-) -> u64
-    requires { is_refusal end ≡ false }
-    ensures { filled result rows.new ≡ row_put around cursor end task slot left datum rows.old }
+// The head of the row of the node at the cursor, without slot and left part.
+#[inline(always)]
+pub fn head_at(task: Task, around: Around, cursor: Cursor) -> Head
+    ensures { result ≡ record { task = task; inside = around.inside; slot = 0; left = 0; node = cursor.nodes } }
 {
-    let head = Head {
+    Head {
         task,
-        inside: is_in_block(around),
-        slot,
-        left,
-        node: nodes_of(cursor),
-    };
-    put_row(rows, rows_of(end), head.into(), datum);
-    end + 1
-}
-
-// The same behind the last part of a node, which may have been refused.
-pub fn close_row(
-    rows: &mut [u64],
-    around: u64,
-    cursor: u64,
-    end: u64,
-    task: Task,
-    slot: usize,
-    left: usize,
-    datum: u64,
-) -> u64
-    ensures { filled result rows.new ≡ row_closed around cursor end task slot left datum rows.old }
-{
-    if is_refusal(end) {
-        return end;
-    }
-    write_row(rows, around, cursor, end, task, slot, left, datum)
-}
-
-// A literal: its value and its word type are at `at`.
-pub fn read_literal(
-    rows: &mut [u64],
-    image: &[u8],
-    known: u64,
-    around: u64,
-    cursor: u64,
-    at: usize,
-) -> u64
-    ensures { filled result rows.new ≡ literal_rows image.now known around cursor at rows.old }
-{
-    match number_at(image, at) {
-        Limited::Value { value, next } => match below_at(image, next, known) {
-            Limited::Value {
-                value: number,
-                next: last,
-            } => {
-                let end = behind_head(cursor, last);
-                let slot = number as usize;
-                write_row(rows, around, cursor, end, Task::Literal, slot, 0, value)
-            }
-            Limited::Refused(refusal) => refused(refusal),
-        },
-        Limited::Refused(refusal) => refused(refusal),
-    }
-}
-
-// A variable: how many lets out it is bound is at `at`.
-pub fn read_variable(rows: &mut [u64], image: &[u8], around: u64, cursor: u64, at: usize) -> u64
-    ensures { filled result rows.new ≡ variable_rows image.now around cursor at rows.old }
-{
-    match below_at(image, at, lets_of(around)) {
-        Limited::Value { value, next } => {
-            let end = behind_head(cursor, next);
-            let slot = value as usize;
-            write_row(rows, around, cursor, end, Task::Variable, slot, 0, 0)
-        }
-        Limited::Refused(refusal) => refused(refusal),
-    }
-}
-
-// A malloc: its target is at `at`.
-pub fn read_malloc(
-    rows: &mut [u64],
-    image: &[u8],
-    known: u64,
-    structs: u64,
-    around: u64,
-    cursor: u64,
-    at: usize,
-) -> u64
-    ensures { filled result rows.new ≡ malloc_rows image.now known structs around cursor at rows.old }
-{
-    match read_target(image, at, structs, known, 0) {
-        Limited::Value { value, next } => {
-            let end = behind_head(cursor, next);
-            write_row(rows, around, cursor, end, Task::Malloc, 0, 0, value)
-        }
-        Limited::Refused(refusal) => refused(refusal),
-    }
-}
-
-// What stands at `at`, between the code of a node with one part, which is at `first`, and its part. No other node has the code.
-pub fn read_operand(
-    image: &[u8],
-    known: u64,
-    around: u64,
-    first: usize,
-    operation: Operation,
-    at: usize,
-) -> Operand
-    requires { 0 < depth_in around }
-    ensures { result ≡ as_operand (operand_of image.now known around first operation at) }
-{
-    match operation {
-        Operation::Unchecked => plain_part(Task::Unchecked, in_block(around), at),
-        Operation::Cast => match below_at(image, at, known) {
-            Limited::Value { value, next } => Operand::Part {
-                task: Task::Cast,
-                slot: value as usize,
-                datum: 0,
-                within: deeper(around),
-                next,
-            },
-            Limited::Refused(refusal) => Operand::Refused(refusal),
-        },
-        Operation::Read => plain_part(Task::Read, deeper(around), at),
-        Operation::Field => match number_at(image, at) {
-            Limited::Value { value, next } => Operand::Part {
-                task: Task::Field,
-                slot: 0,
-                datum: value,
-                within: deeper(around),
-                next,
-            },
-            Limited::Refused(refusal) => Operand::Refused(refusal),
-        },
-        _ => Operand::Refused(Refusal {
-            fault: Fault::Unknown,
-            place: first,
-        }),
-    }
-}
-
-// Nothing stands there.
-fn plain_part(task: Task, within: u64, next: usize) -> Operand
-    ensures { result ≡ Part task 0 0 within next }
-{
-    Operand::Part {
-        task,
+        inside: around.is_inside(),
         slot: 0,
-        datum: 0,
-        within,
-        next,
+        left: 0,
+        node: cursor.nodes(),
     }
 }
 
-// A refusal as an answer.
-pub fn refused(refusal: Refusal) -> u64
-    ensures { result ≡ refusal_number refusal.fault refusal.place }
+// A row behind the rows up to `end`: where reading stands then.
+#[inline(always)]
+pub fn write_row(rows: &mut [u64], end: Cursor, head: Head, datum: u64) -> Cursor
+    ensures { filled (Ok result) rows.new ≡ row_put end head datum rows.old }
 {
-    let fault = refusal.fault;
-    refusal_number(fault, refusal.place)
+    put_row(rows, end.rows(), u64::from(head), datum);
+    end.behind_row()
+}
+
+impl RowReader<'_> {
+    // A literal: its value and its word type are at `at`.
+    #[inline(always)]
+    #[tactic(auto, unfolding(crate::specs::Reads::literal_rows))]
+    pub fn read_literal(
+        &self,
+        rows: &mut [u64],
+        within: Around,
+        cursor: Cursor,
+        at: usize,
+    ) -> Result<Cursor, Refusal>
+        ensures { filled result rows.new ≡ literal_rows self.now.image.now self.now.known within.inside cursor at rows.old }
+    {
+        let value = number_at(self.image, at)?;
+        let number = below_at(self.image, value.next, self.known)?;
+        let head = Head {
+            slot: number.value as usize,
+            ..head_at(Task::Literal, within, cursor)
+        };
+        let end = cursor.behind_head(number.next);
+        Ok(write_row(rows, end, head, value.value))
+    }
+
+    // A variable: how many lets out it is bound is at `at`.
+    #[inline(always)]
+    #[tactic(auto, unfolding(crate::specs::Reads::variable_rows))]
+    pub fn read_variable(
+        &self,
+        rows: &mut [u64],
+        within: Around,
+        cursor: Cursor,
+        at: usize,
+    ) -> Result<Cursor, Refusal>
+        ensures { filled result rows.new ≡ variable_rows self.now.image.now within.lets within.inside cursor at rows.old }
+    {
+        let out = below_at(self.image, at, within.lets())?;
+        let head = Head {
+            slot: out.value as usize,
+            ..head_at(Task::Variable, within, cursor)
+        };
+        let end = cursor.behind_head(out.next);
+        Ok(write_row(rows, end, head, 0))
+    }
+
+    // A malloc: its target is at `at`.
+    #[tactic(auto, unfolding(crate::specs::Reads::malloc_rows))]
+    pub fn read_malloc(
+        &self,
+        rows: &mut [u64],
+        within: Around,
+        cursor: Cursor,
+        at: usize,
+    ) -> Result<Cursor, Refusal>
+        ensures { filled result rows.new
+            ≡ malloc_rows self.now.image.now self.now.known self.now.structs within.inside cursor at rows.old }
+    {
+        let target = read_target(self.image, at, self.structs, self.known, Mode::Checked)?;
+        let head = head_at(Task::Malloc, within, cursor);
+        let end = cursor.behind_head(target.next);
+        Ok(write_row(rows, end, head, target.value))
+    }
+
+    // What stands at `at`, between the code of a node with one part, which is at `first`, and its part. No other node has the code.
+    #[inline(always)]
+    #[tactic(auto, unfolding(crate::specs::Reads::line_of))]
+    pub fn read_line(
+        &self,
+        within: Around,
+        first: usize,
+        operation: Operation,
+        at: usize,
+    ) -> Result<Read<Line>, Refusal>
+        ensures { result ≡ told (line_of self.now.image.now self.now.known within.inside first operation at) }
+    {
+        let plain = Line {
+            task: Task::Read,
+            slot: 0,
+            datum: 0,
+            inside: within.is_inside(),
+        };
+        let (value, next) = match operation {
+            Operation::Unchecked => (
+                Line {
+                    task: Task::Unchecked,
+                    inside: true,
+                    ..plain
+                },
+                at,
+            ),
+            Operation::Cast => {
+                let number = below_at(self.image, at, self.known)?;
+                let slot = number.value as usize;
+                (
+                    Line {
+                        task: Task::Cast,
+                        slot,
+                        ..plain
+                    },
+                    number.next,
+                )
+            }
+            Operation::Read => (plain, at),
+            Operation::Field => {
+                let field = number_at(self.image, at)?;
+                let datum = field.value;
+                (
+                    Line {
+                        task: Task::Field,
+                        datum,
+                        ..plain
+                    },
+                    field.next,
+                )
+            }
+            _ => {
+                return Err(Refusal {
+                    fault: Fault::Unknown,
+                    place: first,
+                });
+            }
+        };
+        Ok(Read { value, next })
+    }
 }

@@ -1,10 +1,14 @@
-// The expression of an image, read into rows in run order. What crosses the recursive call is one number each way: where reading stands,
-// what is around a node, and the answer.
+// The expression of an image, read into rows in run order.
 #![tactic(auto)]
+
+ghost use Rattle.std.specs.Prelude.{◌≡◌};
+ghost use Rattle.reader.specs.declared.NotRead.TheVariants.{Refused};
 
 use calculus::Refusal;
 use tables::Task;
 
+mod answer;
+mod around;
 mod bytes;
 mod cursor;
 mod leaves;
@@ -14,30 +18,45 @@ mod short;
 
 pub use rows::read_rows;
 
-// Whether an expression was read into the lent rows.
-#[derive(Clone, Copy)]
-pub enum ExprRead {
-    // It was: the offset behind it, how many nodes it has, and how many rows, the one that stops among them.
-    Read {
-        next: usize,
-        nodes: usize,
-        rows: usize,
-    },
+// An expression that stands in the lent rows: the offset behind it, how many nodes it has, and how many rows, the one that stops among them.
+#[derive(Clone, Copy, Debug, PartialEq, Eq)]
+pub struct Expression {
+    pub next: usize,
+    pub nodes: usize,
+    pub rows: usize,
+}
+
+// Why none stands there.
+#[derive(Clone, Copy, Debug, PartialEq, Eq)]
+pub enum NotRead {
     Refused(Refusal),
     // The lent rows are too few for what the rest of the image may hold, and nothing was read.
     Short,
 }
 
-// What stands behind the code of a node with one part.
+impl From<Refusal> for NotRead {
+    ghost from_gives = { λ refusal why. why ≡ Refused refusal };
+
+    fn from(refusal: Refusal) -> NotRead {
+        NotRead::Refused(refusal)
+    }
+}
+
+// What is known while the nodes are read: the part of the image that they stand in, how many word types there are, int among them, and how
+// many structs.
 #[derive(Clone, Copy)]
-pub enum Operand {
-    // What its row does, with slot and datum; what is around its part, and where that starts.
-    Part {
-        task: Task,
-        slot: usize,
-        datum: u64,
-        within: u64,
-        next: usize,
-    },
-    Refused(Refusal),
+struct RowReader<'a> {
+    image: &'a [u8],
+    known: u64,
+    structs: u64,
+}
+
+// What stands behind the code of a node with one part: what its row does, with slot and datum, and whether the part lies inside an unchecked
+// block.
+#[derive(Clone, Copy)]
+struct Line {
+    task: Task,
+    slot: usize,
+    datum: u64,
+    inside: bool,
 }

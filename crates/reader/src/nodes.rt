@@ -1,179 +1,141 @@
-// The nodes of an expression, by recursion on their parts: the depth that is left falls at every part.
-ghost use Rattle.std.specs.Prelude.{◌-◌, ◌<◌, ◌≡◌};
+// The nodes of an expression, by recursion on their parts: the depth that is left falls at every part. What crosses the recursive call is one
+// number each way, since a struct or a Result goes through memory there: with a Result as the answer a reading took 1.35 times as many
+// instructions, and 1.6 times as long.
+ghost use Rattle.std.specs.Prelude.{◌≡◌};
 ghost use Rattle.image.specs.Filled.{filled};
-ghost use Rattle.reader.specs.Cursors.{depth_in};
-ghost use Rattle.reader.specs.Reads.{one_rows, act_rows, let_rows, node_rows};
+ghost use Rattle.reader.specs.Reads.{node_rows, part_rows, act_rows, let_rows, one_rows};
 
-use crate::Operand;
+use crate::{Line, RowReader};
+use crate::answer::Answer;
+use crate::around::Around;
 use crate::bytes::number_at;
-use crate::cursor::{
-    behind_head, deeper, depth_of, is_refusal, nodes_of, offset_of, refusal_number, rows_of,
-    under_let,
-};
-use crate::leaves::{
-    close_row, read_literal, read_malloc, read_operand, read_variable, refused, write_row,
-};
-use crate::short::{is_short, short_leaf};
-use calculus::{Act, Fault, Operation};
-use image::Limited;
-use tables::Task;
+use crate::cursor::Cursor;
+use crate::leaves::{head_at, write_row};
+use calculus::{Act, Fault, Operation, Refusal};
+use tables::{Head, Task};
 
-// The node at the cursor with its parts: where reading stands behind it, or its refusal. A fault of the code's own number goes first,
-// then one level or one node too many.
-#[cycle(read_act_read_let_read_node_read_one_read_part)]
-pub fn read_node(
-    rows: &mut [u64],
-    image: &[u8],
-    known: u64,
-    structs: u64,
-    around: u64,
-    cursor: u64,
-) -> u64
-    ensures { filled result rows.new ≡ node_rows image.now known structs (depth_in around) around cursor rows.old }
-{
-    let at = offset_of(cursor);
-    match number_at(image, at) {
-        Limited::Value { value, next } => {
-            if depth_of(around) == 0 {
-                return refusal_number(Fault::Limit, at);
-            }
-            if 2048 <= nodes_of(cursor) {
-                return refusal_number(Fault::Limit, at);
-            }
-            let o = Operation::from(value);
-            match o {
-                Operation::Literal => read_literal(rows, image, known, around, cursor, next),
-                Operation::Variable => read_variable(rows, image, around, cursor, next),
-                Operation::Acts(act) => {
-                    read_act(rows, image, known, structs, around, cursor, next, act)
-                }
-                Operation::Let => read_let(rows, image, known, structs, around, cursor, next),
-                Operation::Malloc => {
-                    read_malloc(rows, image, known, structs, around, cursor, next)
-                }
-                _ => read_one(rows, image, known, structs, around, cursor, next, o),
-            }
+impl RowReader<'_> {
+    // The node at the cursor with its parts: where reading stands behind it, or its refusal.
+    #[cycle(read_nodes)]
+    #[inline(never)]
+    pub fn read_part(&self, rows: &mut [u64], around: Around, cursor: Cursor) -> Answer
+        ensures { filled result rows.new
+            ≡ part_rows self.now.image.now self.now.known self.now.structs around.depth around.lets around.inside cursor rows.old }
+    {
+        match self.read_short(rows, around, cursor) {
+            Some(end) => Ok(end).into(),
+            None => self.read_node(rows, around, cursor).into(),
         }
-        Limited::Refused(refusal) => refused(refusal),
     }
-}
 
-// A part of a node, read as a node is; a short leaf needs no call of the above.
-#[cycle(read_act_read_let_read_node_read_one_read_part)]
-fn read_part(
-    rows: &mut [u64],
-    image: &[u8],
-    known: u64,
-    structs: u64,
-    around: u64,
-    cursor: u64,
-) -> u64
-    ensures { filled result rows.new ≡ node_rows image.now known structs (depth_in around) around cursor rows.old }
-{
-    if is_short(image, known, around, cursor) {
-        return short_leaf(rows, image, around, cursor);
+    // The same before it crosses the call. A fault of the code's own number goes first, then one level or one node too many.
+    #[cycle(read_nodes)]
+    #[inline(always)]
+    #[tactic(auto, unfolding(crate::specs::Reads::node_rows))]
+    fn read_node(&self, rows: &mut [u64], around: Around, cursor: Cursor) -> Result<Cursor, Refusal>
+        ensures { filled result rows.new
+            ≡ node_rows self.now.image.now self.now.known self.now.structs around.depth around.lets around.inside cursor rows.old }
+    {
+        let place = cursor.offset();
+        let code = number_at(self.image, place)?;
+        let limit = Refusal {
+            fault: Fault::Limit,
+            place,
+        };
+        let within = around.deeper().ok_or(limit)?;
+        if 2048 <= cursor.nodes() {
+            return Err(limit);
+        }
+        let operation = Operation::from(code.value);
+        match operation {
+            Operation::Literal => self.read_literal(rows, within, cursor, code.next),
+            Operation::Variable => self.read_variable(rows, within, cursor, code.next),
+            Operation::Acts(act) => self.read_act(rows, within, cursor, code.next, act),
+            Operation::Let => self.read_let(rows, within, cursor, code.next),
+            Operation::Malloc => self.read_malloc(rows, within, cursor, code.next),
+            _ => self.read_one(rows, within, cursor, code.next, operation),
+        }
     }
-    read_node(rows, image, known, structs, around, cursor)
-}
 
-// A node with one part, from behind its code on.
-#[cycle(read_act_read_let_read_node_read_one_read_part)]
-fn read_one(
-    rows: &mut [u64],
-    image: &[u8],
-    known: u64,
-    structs: u64,
-    around: u64,
-    cursor: u64,
-    at: usize,
-    operation: Operation,
-) -> u64
-    requires { 0 < depth_in around }
-    ensures { filled result rows.new
-        ≡ one_rows image.now known (node_rows image.now known structs (depth_in around - 1)) around cursor operation at rows.old }
-{
-    match read_operand(image, known, around, offset_of(cursor), operation, at) {
-        Operand::Part {
-            task,
+    // A node with one part, from behind its code on.
+    #[cycle(read_nodes)]
+    #[inline(always)]
+    #[tactic(auto, unfolding(crate::specs::Reads::one_rows))]
+    fn read_one(
+        &self,
+        rows: &mut [u64],
+        within: Around,
+        cursor: Cursor,
+        at: usize,
+        operation: Operation,
+    ) -> Result<Cursor, Refusal>
+        ensures { filled result rows.new
+            ≡ one_rows self.now.image.now self.now.known (part_rows self.now.image.now self.now.known self.now.structs within.depth)
+            within.lets within.inside cursor operation at rows.old }
+    {
+        let line = self.read_line(within, cursor.offset(), operation, at)?;
+        let Line { task, slot, datum, inside } = line.value;
+        let start = cursor.behind_head(line.next);
+        let around = within.with_inside(inside);
+        let end = self.read_part(rows, around, start).into_result()?;
+        let head = Head {
             slot,
-            datum,
-            within,
-            next,
-        } => {
-            let start = behind_head(cursor, next);
-            let end = read_part(rows, image, known, structs, within, start);
-            close_row(rows, around, cursor, end, task, slot, 0, datum)
-        }
-        Operand::Refused(refusal) => refused(refusal),
+            ..head_at(task, within, cursor)
+        };
+        Ok(write_row(rows, end, head, datum))
     }
-}
 
-// An act, from behind its code on. Its row tells where its left part's rows end.
-#[cycle(read_act_read_let_read_node_read_one_read_part)]
-fn read_act(
-    rows: &mut [u64],
-    image: &[u8],
-    known: u64,
-    structs: u64,
-    around: u64,
-    cursor: u64,
-    at: usize,
-    act: Act,
-) -> u64
-    requires { 0 < depth_in around }
-    ensures { filled result rows.new
-        ≡ act_rows (node_rows image.now known structs (depth_in around - 1)) around cursor act at rows.old }
-{
-    let within = deeper(around);
-    let start = behind_head(cursor, at);
-    let left = read_part(rows, image, known, structs, within, start);
-    if is_refusal(left) {
-        return left;
+    // An act, from behind its code on. Its row tells where its left part's rows end.
+    #[cycle(read_nodes)]
+    #[inline(always)]
+    #[tactic(auto, unfolding(crate::specs::Reads::act_rows))]
+    fn read_act(
+        &self,
+        rows: &mut [u64],
+        within: Around,
+        cursor: Cursor,
+        at: usize,
+        act: Act,
+    ) -> Result<Cursor, Refusal>
+        ensures { filled result rows.new
+            ≡ act_rows (part_rows self.now.image.now self.now.known self.now.structs within.depth)
+            within.lets within.inside cursor act at rows.old }
+    {
+        let start = cursor.behind_head(at);
+        let left = self.read_part(rows, within, start).into_result()?;
+        let end = self.read_part(rows, within, left).into_result()?;
+        let head = Head {
+            left: left.rows(),
+            ..head_at(Task::Acts(act), within, cursor)
+        };
+        Ok(write_row(rows, end, head, 0))
     }
-    let end = read_part(rows, image, known, structs, within, left);
-    close_row(
-        rows,
-        around,
-        cursor,
-        end,
-        Task::Acts(act),
-        0,
-        rows_of(left),
-        0,
-    )
-}
 
-// A let, from behind its code on: its Bind row stands behind its bound part's rows, and its Unbind row, which tells the other, behind its
-// body's.
-#[cycle(read_act_read_let_read_node_read_one_read_part)]
-fn read_let(
-    rows: &mut [u64],
-    image: &[u8],
-    known: u64,
-    structs: u64,
-    around: u64,
-    cursor: u64,
-    at: usize,
-) -> u64
-    requires { 0 < depth_in around }
-    ensures { filled result rows.new
-        ≡ let_rows (node_rows image.now known structs (depth_in around - 1)) around cursor at rows.old }
-{
-    let start = behind_head(cursor, at);
-    let bound = read_part(rows, image, known, structs, deeper(around), start);
-    if is_refusal(bound) {
-        return bound;
+    // A let, from behind its code on: its Bind row stands behind its bound part's rows, and its Unbind row, which tells the other, behind its
+    // body's.
+    #[cycle(read_nodes)]
+    #[inline(always)]
+    #[tactic(auto, unfolding(crate::specs::Reads::let_rows))]
+    fn read_let(
+        &self,
+        rows: &mut [u64],
+        within: Around,
+        cursor: Cursor,
+        at: usize,
+    ) -> Result<Cursor, Refusal>
+        ensures { filled result rows.new
+            ≡ let_rows (part_rows self.now.image.now self.now.known self.now.structs within.depth)
+            within.lets within.inside cursor at rows.old }
+    {
+        let start = cursor.behind_head(at);
+        let bound = self.read_part(rows, within, start).into_result()?;
+        let body = write_row(rows, bound, head_at(Task::Bind, within, cursor), 0);
+        let around = within.under_let();
+        let end = self.read_part(rows, around, body).into_result()?;
+        let head = Head {
+            left: bound.rows(),
+            ..head_at(Task::Unbind, within, cursor)
+        };
+        Ok(write_row(rows, end, head, 0))
     }
-    let body = write_row(rows, around, cursor, bound, Task::Bind, 0, 0, 0);
-    let end = read_part(rows, image, known, structs, under_let(around), body);
-    close_row(
-        rows,
-        around,
-        cursor,
-        end,
-        Task::Unbind,
-        0,
-        rows_of(bound),
-        0,
-    )
 }

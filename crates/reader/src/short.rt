@@ -1,60 +1,60 @@
-// Leaves whose numbers have one byte each, which most have: a literal or a variable is then read by its bytes alone.
-ghost use Rattle.std.specs.Prelude.{◌+◌, ◌<◌, ◌≡◌, true, length};
+// Leaves whose numbers have one byte each, which most have: a literal or a variable is then read by its bytes alone. Without this an expression
+// with many leaves took 1.2 times as long.
+ghost use Rattle.std.specs.Prelude.{◌<◌, ◌≡◌, Ok, MatchOption, true};
 ghost use Rattle.image.specs.Filled.{filled};
-ghost use Rattle.reader.specs.Cursors.{offset_in};
-ghost use Rattle.reader.specs.Reads.{short_rows};
-ghost use Rattle.reader.specs.Short.{ShortLeaf};
+ghost use Rattle.reader.specs.Reads.{node_rows};
 
-use crate::bytes::wide;
-use crate::cursor::{behind_head, depth_of, lets_of, nodes_of, offset_of};
-use crate::leaves::write_row;
-use tables::Task;
+use crate::RowReader;
+use crate::around::Around;
+use crate::cursor::Cursor;
+use crate::leaves::{head_at, write_row};
+use tables::{Head, Task};
 
-// Such a leaf is at the cursor, with room for it, and its numbers are known.
-pub fn is_short(image: &[u8], known: u64, around: u64, cursor: u64) -> bool
-    ensures { result ≡ true → ShortLeaf image.now known around cursor }
-{
-    let at = offset_of(cursor);
-    if image.len() < at + 3 {
-        return false;
-    }
-    if depth_of(around) == 0 {
-        return false;
-    }
-    if 2048 <= nodes_of(cursor) {
-        return false;
-    }
-    let code = wide(image[at]);
-    let first = wide(image[at + 1]);
-    if 128 <= first {
-        return false;
-    }
-    if code == 0 {
-        let number = wide(image[at + 2]);
-        if 128 <= number {
-            return false;
+impl RowReader<'_> {
+    // Such a leaf, if one is at the cursor, with known numbers and with room for it.
+    #[inline(always)]
+    #[tactic(auto, using(crate::proofs::ShortLeaves::short_literal, crate::proofs::ShortLeaves::short_variable))]
+    pub fn read_short(&self, rows: &mut [u64], around: Around, cursor: Cursor) -> Option<Cursor>
+        ensures { MatchOption result (rows.new ≡ rows.old) (λ end. filled (Ok end) rows.new
+            ≡ node_rows self.now.image.now self.now.known self.now.structs around.depth around.lets around.inside cursor rows.old) }
+    {
+        let at = cursor.offset();
+        let Some([code, first, second, ..]) = self.image.get(at..) else {
+            return None;
+        };
+        match *code {
+            0 if *first < 128
+                && *second < 128
+                && u64::from(*second) < self.known
+                && has_room(around, cursor) =>
+            {
+                let head = Head {
+                    slot: usize::from(*second),
+                    ..head_at(Task::Literal, around, cursor)
+                };
+                let end = cursor.behind_head(at + 3);
+                Some(write_row(rows, end, head, u64::from(*first)))
+            }
+            1 if *first < 128
+                && u64::from(*first) < around.lets()
+                && has_room(around, cursor) =>
+            {
+                let head = Head {
+                    slot: usize::from(*first),
+                    ..head_at(Task::Variable, around, cursor)
+                };
+                let end = cursor.behind_head(at + 2);
+                Some(write_row(rows, end, head, 0))
+            }
+            _ => None,
         }
-        return number < known;
     }
-    if code == 1 {
-        return first < lets_of(around);
-    }
-    false
 }
 
-// It, by its bytes.
-pub fn short_leaf(rows: &mut [u64], image: &[u8], around: u64, cursor: u64) -> u64
-    requires { offset_in cursor + 2 < length image.now }
-    ensures { filled result rows.new ≡ short_rows image.now around cursor rows.old }
+// One level and one node more may be read.
+#[inline(always)]
+fn has_room(around: Around, cursor: Cursor) -> bool
+    ensures { result ≡ true → (0 < around.depth) × (cursor.nodes < 2048) }
 {
-    let at = offset_of(cursor);
-    let first = wide(image[at + 1]);
-    if wide(image[at]) == 0 {
-        let slot = wide(image[at + 2]) as usize;
-        let end = behind_head(cursor, at + 3);
-        return write_row(rows, around, cursor, end, Task::Literal, slot, 0, first);
-    }
-    let slot = first as usize;
-    let end = behind_head(cursor, at + 2);
-    write_row(rows, around, cursor, end, Task::Variable, slot, 0, 0)
+    around.deeper().is_some() && cursor.nodes() < 2048
 }

@@ -1,0 +1,82 @@
+// The answer of the recursive call, as one number.
+ghost use Rattle.std.specs.Prelude.{◌^◌, ◌<◌, ◌≡◌, IfErr};
+ghost use Rattle.reader.specs.Cursors.{crossed, fault_of};
+
+use crate::cursor::Cursor;
+use calculus::{Fault, Refusal};
+use std::marker::Model;
+
+// Where reading stands then, or a refusal.
+pub struct Answer {
+    number: u64,
+}
+
+impl Model for Answer {
+    ghost use Rattle.std.specs.Prelude.{Result};
+    ghost use Rattle.calculus.specs.declared.Refusal.{Refusal};
+    ghost use Rattle.reader.specs.Cursors.{Standing};
+
+    ghost Value = { Result Standing Refusal };
+
+    ghost use Rattle.reader.specs.Cursors.{answer_in};
+
+    ghost view = { λ answer. answer_in answer.number };
+}
+
+impl Answer {
+    #[inline(always)]
+    pub fn into_result(self) -> Result<Cursor, Refusal>
+        ensures is { result ≡ self }
+        ensures small { IfErr result (λ q. q.place < 2 ^ 38) }
+    {
+        let Answer { number } = self;
+        if number < 9223372036854775808 {
+            return Ok(number.into());
+        }
+        Err(Refusal {
+            fault: fault_of(number / 274877906944 % 16),
+            place: (number % 274877906944) as usize,
+        })
+    }
+}
+
+// A place that doesn't fit its bits is cut to them.
+impl From<Result<Cursor, Refusal>> for Answer {
+    ghost from_gives = { λ reading answer. answer ≡ crossed reading };
+
+    #[inline(always)]
+    #[tactic(auto, using(crate::proofs::Cursors::fault_below), unfolding(crate::specs::Cursors::crossed))]
+    fn from(reading: Result<Cursor, Refusal>) -> Answer {
+        match reading {
+            Ok(cursor) => Answer {
+                number: cursor.into(),
+            },
+            Err(refusal) => {
+                let fault = u64::from(refusal.fault);
+                let place = refusal.place % 274877906944;
+                Answer {
+                    number: 9223372036854775808 + 274877906944 * fault + place as u64,
+                }
+            }
+        }
+    }
+}
+
+// The fault with a number, and the last one where none has it.
+#[tactic(auto, using(crate::proofs::Cursors::no_fault), unfolding(crate::specs::Cursors::fault_of))]
+fn fault_of(number: u64) -> Fault
+    ensures { result ≡ fault_of number }
+{
+    match number {
+        1 => Fault::Ends,
+        2 => Fault::Unfit,
+        3 => Fault::Format,
+        4 => Fault::Limit,
+        5 => Fault::Unknown,
+        6 => Fault::Repeat,
+        7 => Fault::Beyond,
+        8 => Fault::Behind,
+        9 => Fault::NoRule,
+        _ => Fault::IllTyped,
+    }
+}
