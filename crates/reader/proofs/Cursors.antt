@@ -9,29 +9,29 @@ use Rattle.calculus.specs.Answers.{fault_number}
 use Rattle.calculus.specs.declared.Fault.{Fault}
 use Rattle.calculus.specs.declared.Fault.TheVariants.{Ends, Unfit, Format, Limit, Unknown, Repeat, Beyond, Behind, NoRule, IllTyped}
 use Rattle.image.specs.Answers.{refusal}
-use Rattle.reader.specs.Cursors.{Standing, standing, cursor_number, standing_in, behind_head, behind_row, fault_list, fault_of, crossed}
+use Rattle.reader.specs.Cursors.{ReadingAt, reading_at, cursor_number, standing_in, behind_head, behind_row, fault_list, fault_of, crossed}
 
 -- ---- where reading stands, in numbers that fit
-standing_is : {o o' n n' r r' : ℕ} → o ≡ o' → n ≡ n' → r ≡ r' → standing o n r ≡ standing o' n' r'
+standing_is : {o o' n n' r r' : ℕ} → o ≡ o' → n ≡ n' → r ≡ r' → reading_at o n r ≡ reading_at o' n' r'
 standing_is a b c = rw (a, b, c)
 
 module _ (offset nodes rows : ℕ) (near : offset < 274877906944) (few : nodes < 4096) where
-  back : rows < 8192 → standing_in (cursor_number (standing offset nodes rows)) ≡ standing offset nodes rows
+  back : rows < 8192 → standing_in (cursor_number (reading_at offset nodes rows)) ≡ reading_at offset nodes rows
   back low = standing_is (omega arith) (omega arith) (omega arith)
 
-  pub row_more : suc rows < 8192 → behind_row (standing offset nodes rows) ≡ standing offset nodes (suc rows)
+  pub row_more : suc rows < 8192 → behind_row (reading_at offset nodes rows) ≡ reading_at offset nodes (suc rows)
   unfolding behind_row
   row_more low = standing_is (omega arith) (omega arith) (omega arith)
 
-  pub crossed_read : rows < 8192 → crossed (Ok (standing offset nodes rows)) ≡ Ok (standing offset nodes rows)
+  pub crossed_read : rows < 8192 → crossed (Ok (reading_at offset nodes rows)) ≡ Ok (reading_at offset nodes rows)
   unfolding crossed
   crossed_read low =
-      let n : ℕ = cursor_number (standing offset nodes rows) in
+      let n : ℕ = cursor_number (reading_at offset nodes rows) in
       let small : n < 9223372036854775808 = omega arith in
       rw (lt-ltb n 9223372036854775808 small, back low)
 
 -- behind a head that ends at `next`
-pub behind_is : (at i p next : ℕ) → i < 2048 → next < 274877906944 → behind_head (standing at i p) next ≡ standing next (suc i) p
+pub behind_is : (at i p next : ℕ) → i < 2048 → next < 274877906944 → behind_head (reading_at at i p) next ≡ reading_at next (suc i) p
 unfolding behind_head
 behind_is at i p next few near = standing_is (omega arith) (omega arith) refl
 

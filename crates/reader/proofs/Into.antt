@@ -24,7 +24,7 @@ use Rattle.image.specs.Answers.{refusal}
 use Rattle.image.specs.Tabling.{on_filled}
 use Rattle.image.specs.Parsing.{Parsed, got, refused, then_read}
 use Rattle.image.specs.Filled.{filled}
-use Rattle.reader.specs.Cursors.{standing}
+use Rattle.reader.specs.Cursors.{reading_at}
 use Rattle.reader.specs.Reads.{Reading, row_put, row_head, crossing}
 use Rattle.reader.specs.Told.{BehindKept}
 use Rattle.reader.proofs.Cursors.{row_more, crossed_read, crossed_refused}
@@ -64,7 +64,7 @@ roomy_kept l r = record { space = λ n few within. rw l (r.space n few within) }
 pub data IntoRows (image types t : List ℕ) (b : Bool) (i p at : ℕ) : Reading → Parsed Expr → Type 0 where
   into : {e : Expr} {next q : ℕ} {t' : List ℕ} → i + nodes e ≤ 2048 → at + nodes e ≤ next → next ≤ length image
       → PartRows types t' (inside_mode b) i p e q → FrontKept p t t' → BehindKept q t t'
-      → IntoRows image types t b i p at (filled (Ok (standing next (i + nodes e) q)) t') (got e next)
+      → IntoRows image types t b i p at (filled (Ok (reading_at next (i + nodes e) q)) t') (got e next)
   stopped : {f : Fault} {place : ℕ} {t' : List ℕ} → place ≤ length image → length t' ≡ length t
       → IntoRows image types t b i p at (filled (Err (refusal f place)) t') (refused f place)
 
@@ -82,7 +82,7 @@ module _ (image types : List ℕ) (near : length image < 274877906944) where
     row_into : (e : Expr) {next n q : ℕ} {t₁ : List ℕ} (k : Task) (slot left datum : ℕ) → n ≡ i + nodes e → n ≤ 2048 → at + nodes e ≤ next
         → next ≤ length image → suc q ≤ 2 * n → p ≤ q → FrontKept p t t₁ → BehindKept (suc q) t t₁
         → PartRows types (put_row t₁ q (head_number k b slot left i) datum) (inside_mode b) i p e (suc q)
-        → IntoRows image types t b i p at (row_put (standing next n q) (row_head k b slot left (standing at i p)) datum t₁) (got e next)
+        → IntoRows image types t b i p at (row_put (reading_at next n q) (row_head k b slot left (reading_at at i p)) datum t₁) (got e next)
     row_into e {next} {n} {q} {t₁} k slot left datum m few long end low behind front back x =
         rw (row_more next n q (omega arith) (omega arith) (omega arith), m)
         (into {e = e} (omega arith) long end x
@@ -92,7 +92,7 @@ module _ (image types : List ℕ) (near : length image < 274877906944) where
     -- a node without parts
     pub leaf_into : (e : Expr) {next : ℕ} (k : Task) (slot datum : ℕ) → nodes e ≡ 1 → at < next → next ≤ length image
         → PartRows types (put_row t p (head_number k b slot 0 i) datum) (inside_mode b) i p e (suc p)
-        → IntoRows image types t b i p at (row_put (standing next (suc i) p) (row_head k b slot 0 (standing at i p)) datum t) (got e next)
+        → IntoRows image types t b i p at (row_put (reading_at next (suc i) p) (row_head k b slot 0 (reading_at at i p)) datum t) (got e next)
     leaf_into e k slot datum n behind end x =
         row_into e k slot 0 datum (omega arith) (omega arith) (omega arith) end (omega (arith, at_node.low)) (omega arith) (kept_all p)
         (record { same = λ k l. refl }) x
@@ -101,7 +101,7 @@ module _ (image types : List ℕ) (near : length image < 274877906944) where
     pub one_into_lem : {b' : Bool} {o : One} {F : Reading} {r : Parsed Expr} {start : ℕ} (k : Task) (slot datum : ℕ)
         → slot < 512 → work_of types k slot datum ≡ apply o → inside_mode b' ≡ inside o (inside_mode b) → at < start
         → IntoRows image types t b' (suc i) p start F r
-        → IntoRows image types t b i p at (on_filled F (λ end t₁. row_put end (row_head k b slot 0 (standing at i p)) datum t₁))
+        → IntoRows image types t b i p at (on_filled F (λ end t₁. row_put end (row_head k b slot 0 (reading_at at i p)) datum t₁))
         (then_read r (λ e next. got (one o e) next))
     unfolding nodes
     one_into_lem {o = o} k slot datum s w mode behind (into {e} {next} {q} {t' = t₁} few long end x front back) =
@@ -116,7 +116,7 @@ module _ (image types : List ℕ) (near : length image < 274877906944) where
     -- the left part of an act was read; the right one is read behind it
     pub right_into : {u : Expr} {mid q : ℕ} {t₁ : List ℕ} {G : Reading} {r : Parsed Expr} (o : Act) → at + suc (nodes u) ≤ mid
         → PartRows types t₁ (inside_mode b) (suc i) p u q → FrontKept p t t₁ → BehindKept q t t₁ → IntoRows image types t₁ b (suc i + nodes u) q mid G r
-        → IntoRows image types t b i p at (on_filled G (λ end t₂. row_put end (row_head (task.Acts o) b 0 q (standing at i p)) 0 t₂))
+        → IntoRows image types t b i p at (on_filled G (λ end t₂. row_put end (row_head (task.Acts o) b 0 q (reading_at at i p)) 0 t₂))
         (then_read r (λ v next. got (two (act o) u v) next))
     unfolding nodes
     right_into {u} {mid} {q} {t₁} o long x front back (into {e = v} {next} {q = r} {t' = t₂} few₂ long₂ end₂ y front₂ back₂) =
@@ -134,7 +134,7 @@ module _ (image types : List ℕ) (near : length image < 274877906944) where
     pub body_into : {u : Expr} {mid q : ℕ} {t₁ : List ℕ} {G : Reading} {r : Parsed Expr} → at + suc (nodes u) ≤ mid
         → PartRows types t₁ (inside_mode b) (suc i) p u q → FrontKept p t t₁ → BehindKept q t t₁
         → IntoRows image types (put_row t₁ q (head_number task.Bind b 0 0 i) 0) b (suc i + nodes u) (suc q) mid G r
-        → IntoRows image types t b i p at (on_filled G (λ end t₂. row_put end (row_head task.Unbind b 0 q (standing at i p)) 0 t₂))
+        → IntoRows image types t b i p at (on_filled G (λ end t₂. row_put end (row_head task.Unbind b 0 q (reading_at at i p)) 0 t₂))
         (then_read r (λ v next. got (bind u v) next))
     unfolding nodes
     body_into {u} {mid} {q} {t₁} long x front back (into {e = v} {next} {q = r} {t' = t₂} few₂ long₂ end₂ y front₂ back₂) =

@@ -16,7 +16,7 @@ use Rattle.calculus.specs.declared.Fault.TheVariants as fault
 use Rattle.image.specs.Content.{Tables}
 use Rattle.image.specs.Parsing.{Parsed, refused, then_read, number}
 use Rattle.image.specs.Nodes.{Head, head_of, read_head, read_parts, read_node}
-use Rattle.reader.specs.Cursors.{standing}
+use Rattle.reader.specs.Cursors.{reading_at}
 use Rattle.reader.specs.Reads.{Reading, PartReader, node_rows, part_rows}
 use Rattle.reader.proofs.Ending.{number_ending}
 use Rattle.reader.proofs.Into.{StandsAt, RowRoom, IntoRows, stopped, crossing_into}
@@ -34,7 +34,7 @@ module _ (image : List ℕ) (near : length image < 274877906944) (tables : Table
     (structs_few : length tables.structs ≤ 256) (small : (n : ℕ) → Small (get_or tables.types n Int)) where
   pub node_in_lem : (deep lets : ℕ) (b : Bool) (i p at : ℕ) (t : List ℕ) → lets + deep < 128 → StandsAt image i p at → RowRoom image t
       → IntoRows image (map packed tables.types) t b i p at
-      (node_rows image (length tables.types) (length tables.structs) deep lets b (standing at i p) t)
+      (node_rows image (length tables.types) (length tables.structs) deep lets b (reading_at at i p) t)
       (read_node image tables deep lets i at)
   unfolding node_rows read_node read_head
   node_in_lem zero lets b i p at t low s room =

@@ -26,9 +26,9 @@ use Rattle.image.specs.Nodes.{Head, leaf, part, read_kind, head_of, read_parts}
 use Rattle.image.specs.Answers.{mapped, pointer_code}
 use Rattle.image.specs.Tabling.{on_read}
 use Rattle.image.proofs.KnownKinds.{entry_small, known_pointer}
-use Rattle.reader.specs.Cursors.{standing}
-use Rattle.reader.specs.Reads.{Reading, PartReader, literal_rows, variable_rows, malloc_rows, one_line, line_of, one_into, one_rows, operation_rows}
-use Rattle.reader.specs.declared.Line.{Line}
+use Rattle.reader.specs.Cursors.{reading_at}
+use Rattle.reader.specs.Reads.{Reading, PartReader, literal_rows, variable_rows, malloc_rows, one_line, part_line, one_into, one_rows, operation_rows}
+use Rattle.reader.specs.declared.PartLine.{PartLine}
 use Rattle.reader.proofs.Cursors.{behind_is}
 use Rattle.reader.proofs.Ending.{Ending, ending, ending_none, number_ending, below_ending, target_ending}
 use Rattle.reader.proofs.Into.{StandsAt, RowRoom, IntoRows, stopped, leaf_into, one_into_lem}
@@ -60,11 +60,11 @@ module _ (image types : List ℕ) {t : List ℕ} {b : Bool} {i p at from : ℕ} 
   target_into f (got ω next) go D s (ending l w x) k = k ω next l w x
   target_into f (refused g q) go D s (ending_none w) k = rw (s g q) (stopped w refl)
 
-  line_into : {P : ℕ → Type 0} (part' : PartReader) (lets : ℕ) (inside : Bool) (r : Parsed ℕ) (line : ℕ → Line)
+  line_into : {P : ℕ → Type 0} (part' : PartReader) (lets : ℕ) (inside : Bool) (r : Parsed ℕ) (line : ℕ → PartLine)
       (D : Parsed ℕ → Parsed Expr) → ((f : Fault) (q : ℕ) → D (refused f q) ≡ refused f q) → Ending (length image) from P r
       → ((v next : ℕ) → from < next → next ≤ length image → P v
-      → IntoRows image types t b i p at (one_into part' lets inside (standing at i p) (got (line v) next) t) (D (got v next)))
-      → IntoRows image types t b i p at (one_into part' lets inside (standing at i p) (then_read r (λ v next. got (line v) next)) t) (D r)
+      → IntoRows image types t b i p at (one_into part' lets inside (reading_at at i p) (got (line v) next) t) (D (got v next)))
+      → IntoRows image types t b i p at (one_into part' lets inside (reading_at at i p) (then_read r (λ v next. got (line v) next)) t) (D r)
   line_into part' lets inside (got v next) line D s (ending l w x) k = k v next l w x
   line_into part' lets inside (refused f q) line D s (ending_none w) k = rw (s f q) (stopped w refl)
 
@@ -83,7 +83,7 @@ module _ (image : List ℕ) (near : length image < 274877906944) (tables : Table
 
   literal_in : (start : ℕ) → at < start → start ≤ length image
       → IntoRows image (map packed tables.types) t b i p at
-      (literal_rows image (length tables.types) b (standing at i p) start t)
+      (literal_rows image (length tables.types) b (reading_at at i p) start t)
       (Whole (head_of image tables lets at op.Literal start))
   unfolding literal_rows head_of read_parts nodes
   literal_in start l w =
@@ -101,7 +101,7 @@ module _ (image : List ℕ) (near : length image < 274877906944) (tables : Table
 
   variable_in : (start : ℕ) → at < start → start ≤ length image
       → IntoRows image (map packed tables.types) t b i p at
-      (variable_rows image lets b (standing at i p) start t)
+      (variable_rows image lets b (reading_at at i p) start t)
       (Whole (head_of image tables lets at op.Variable start))
   unfolding variable_rows head_of read_parts nodes
   variable_in start l w =
@@ -114,7 +114,7 @@ module _ (image : List ℕ) (near : length image < 274877906944) (tables : Table
 
   malloc_in : (start : ℕ) → at < start → start ≤ length image
       → IntoRows image (map packed tables.types) t b i p at
-      (malloc_rows image (length tables.types) (length tables.structs) b (standing at i p) start t)
+      (malloc_rows image (length tables.types) (length tables.structs) b (reading_at at i p) start t)
       (Whole (head_of image tables lets at op.Malloc start))
   unfolding malloc_rows head_of read_parts nodes
   malloc_in start l w =
@@ -132,7 +132,7 @@ module _ (image : List ℕ) (near : length image < 274877906944) (tables : Table
       → slot < 512 → work_of (map packed tables.types) k slot datum ≡ apply o → inside_mode b' ≡ inside o (inside_mode b)
       → at < next → next ≤ length image
       → IntoRows image (map packed tables.types) t b i p at
-      (one_into part' lets b (standing at i p) (got (one_line k slot datum b') next) t)
+      (one_into part' lets b (reading_at at i p) (got (one_line k slot datum b') next) t)
       (then_read (get lets (suc i) next) (λ e m. got (one o e) m))
   one_in o k slot datum b' next s work mode l w =
       rw (behind_is at i p next more (omega arith))
@@ -142,9 +142,9 @@ module _ (image : List ℕ) (near : length image < 274877906944) (tables : Table
 
   cast_in : (start : ℕ) → at < start → start ≤ length image
       → IntoRows image (map packed tables.types) t b i p at
-      (one_rows image (length tables.types) part' lets b (standing at i p) op.Cast start t)
+      (one_rows image (length tables.types) part' lets b (reading_at at i p) op.Cast start t)
       (Whole (head_of image tables lets at op.Cast start))
-  unfolding one_rows line_of head_of read_parts
+  unfolding one_rows part_line head_of read_parts
   cast_in start l w =
       line_into image (map packed tables.types) part' lets b
       (below fault.Unknown (length tables.types) image start) (λ n. one_line task.Cast n 0 b)
@@ -155,9 +155,9 @@ module _ (image : List ℕ) (near : length image < 274877906944) (tables : Table
 
   field_in : (start : ℕ) → at < start → start ≤ length image
       → IntoRows image (map packed tables.types) t b i p at
-      (one_rows image (length tables.types) part' lets b (standing at i p) op.Field start t)
+      (one_rows image (length tables.types) part' lets b (reading_at at i p) op.Field start t)
       (Whole (head_of image tables lets at op.Field start))
-  unfolding one_rows line_of head_of read_parts
+  unfolding one_rows part_line head_of read_parts
   field_in start l w =
       line_into image (map packed tables.types) part' lets b (number image start) (λ f. one_line task.Field 0 f b)
       (λ r. Whole (then_read r (λ f at₁. got (part (field f)) at₁)))
@@ -167,9 +167,9 @@ module _ (image : List ℕ) (near : length image < 274877906944) (tables : Table
   -- each node behind its code, and an unknown one
   pub operation_in : (o : Operation) (start : ℕ) → at < start → start ≤ length image
       → IntoRows image (map packed tables.types) t b i p at
-      (operation_rows image (length tables.types) (length tables.structs) part' lets b (standing at i p) o start t)
+      (operation_rows image (length tables.types) (length tables.structs) part' lets b (reading_at at i p) o start t)
       (Whole (head_of image tables lets at o start))
-  unfolding one_rows line_of head_of read_parts
+  unfolding one_rows part_line head_of read_parts
   operation_in op.Literal start l w = literal_in start l w
   operation_in op.Variable start l w = variable_in start l w
   operation_in op.Let start l w = let_into image (map packed tables.types) near deep part' get each lets b low t i p at at_node room more start l w

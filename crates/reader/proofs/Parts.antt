@@ -14,7 +14,7 @@ use Rattle.tables.proofs.Laid.{rows_few}
 use Rattle.tables.proofs.Placed.{length_row}
 use Rattle.image.specs.Parsing.{Parsed, got, then_read}
 use Rattle.image.specs.Tabling.{on_filled}
-use Rattle.reader.specs.Cursors.{standing, more_lets}
+use Rattle.reader.specs.Cursors.{reading_at, more_lets}
 use Rattle.reader.specs.Reads.{Reading, PartReader, row_put, row_head, act_rows, let_rows}
 use Rattle.reader.proofs.Cursors.{row_more, behind_is}
 use Rattle.reader.proofs.Into.{StandsAt, RowRoom, roomy_kept, IntoRows, into, stopped, right_into, body_into}
@@ -26,7 +26,7 @@ more_is lets low = omega arith
 -- each part, at most `deep` deep, goes into the rows as it is read
 pub record EachPart (image types : List ℕ) (deep : ℕ) (part : PartReader) (get : ℕ → ℕ → ℕ → Parsed Expr) : Type 0 where
   pub goes : (lets : ℕ) (b : Bool) (i p at : ℕ) (t : List ℕ) → lets + deep < 128 → StandsAt image i p at → RowRoom image t
-      → IntoRows image types t b i p at (part lets b (standing at i p) t) (get lets i at)
+      → IntoRows image types t b i p at (part lets b (reading_at at i p) t) (get lets i at)
 
 module _ (image types : List ℕ) (near : length image < 274877906944) (deep : ℕ) (part : PartReader) (get : ℕ → ℕ → ℕ → Parsed Expr)
     (each : EachPart image types deep part get) (lets : ℕ) (b : Bool) (low : lets + suc deep < 128) (t : List ℕ) (i p at : ℕ)
@@ -39,7 +39,7 @@ module _ (image types : List ℕ) (near : length image < 274877906944) (deep : �
   act_behind : (o : Act) {F : Reading} {r : Parsed Expr} {start : ℕ} → at < start → IntoRows image types t b (suc i) p start F r
       → IntoRows image types t b i p at
       (on_filled F (λ left t₁. on_filled (part lets b left t₁)
-      (λ end t₂. row_put end (row_head (task.Acts o) b 0 left.rows (standing at i p)) 0 t₂)))
+      (λ end t₂. row_put end (row_head (task.Acts o) b 0 left.rows (reading_at at i p)) 0 t₂)))
       (then_read r (λ u at₁. then_read (get lets (suc i + nodes u) at₁) (λ v at₂. got (two (act o) u v) at₂)))
   act_behind o {start = start} l (into {e = u} {next = mid} {q} {t' = t₁} few long end x front back) =
       let f = rows_few x in
@@ -50,7 +50,7 @@ module _ (image types : List ℕ) (near : length image < 274877906944) (deep : �
   act_behind o l (stopped w e) = stopped w e
 
   pub act_into : (o : Act) (start : ℕ) → at < start → start ≤ length image
-      → IntoRows image types t b i p at (act_rows part lets b (standing at i p) o start t)
+      → IntoRows image types t b i p at (act_rows part lets b (reading_at at i p) o start t)
       (then_read (get lets (suc i) start) (λ u at₁. then_read (get lets (suc i + nodes u) at₁) (λ v at₂. got (two (act o) u v) at₂)))
   unfolding act_rows
   act_into o start l w =
@@ -59,9 +59,9 @@ module _ (image types : List ℕ) (near : length image < 274877906944) (deep : �
 
   let_behind : {F : Reading} {r : Parsed Expr} {start : ℕ} → at < start → IntoRows image types t b (suc i) p start F r
       → IntoRows image types t b i p at
-      (on_filled F (λ bound t₁. on_filled (row_put bound (row_head task.Bind b 0 0 (standing at i p)) 0 t₁)
+      (on_filled F (λ bound t₁. on_filled (row_put bound (row_head task.Bind b 0 0 (reading_at at i p)) 0 t₁)
       (λ body t₂. on_filled (part (more_lets lets) b body t₂)
-      (λ end t₃. row_put end (row_head task.Unbind b 0 bound.rows (standing at i p)) 0 t₃))))
+      (λ end t₃. row_put end (row_head task.Unbind b 0 bound.rows (reading_at at i p)) 0 t₃))))
       (then_read r (λ u at₁. then_read (get (suc lets) (suc i + nodes u) at₁) (λ v at₂. got (bind u v) at₂)))
   let_behind {start = start} l (into {e = u} {next = mid} {q} {t' = t₁} few long end x front back) =
       let f = rows_few x in
@@ -73,7 +73,7 @@ module _ (image types : List ℕ) (near : length image < 274877906944) (deep : �
   let_behind l (stopped w e) = stopped w e
 
   pub let_into : (start : ℕ) → at < start → start ≤ length image
-      → IntoRows image types t b i p at (let_rows part lets b (standing at i p) start t)
+      → IntoRows image types t b i p at (let_rows part lets b (reading_at at i p) start t)
       (then_read (get lets (suc i) start) (λ u at₁. then_read (get (suc lets) (suc i + nodes u) at₁) (λ v at₂. got (bind u v) at₂)))
   unfolding let_rows
   let_into start l w =

@@ -11,7 +11,7 @@ use Rattle.std.proofs.lemmas.List.{get_or-drop}
 use Rattle.calculus.specs.Operations.{operation_of}
 use Rattle.tables.specs.declared.Task.TheVariants as task
 use Rattle.image.specs.Parsing.{got, number, below}
-use Rattle.reader.specs.Cursors.{Standing, behind_head}
+use Rattle.reader.specs.Cursors.{ReadingAt, behind_head}
 use Rattle.reader.specs.Reads.{row_put, row_head, literal_rows, variable_rows, node_rows}
 use Rattle.reader.proofs.OneByte.{one_byte}
 
@@ -28,11 +28,11 @@ module _ (image : List ℕ) (at : ℕ) where
       → number image j ≡ got (get_or (bytes_from image at) k 0) next
   number_there k l h j next e n =
       let same : get_or (bytes_from image at) k 0 ≡ get_or image (at + k) 0 =
-          ap (λ (l : List ℕ). get_or l k 0) all_there ∙ get_or-drop at image k 0 in
+      ap (λ (l : List ℕ). get_or l k 0) all_there ∙ get_or-drop at image k 0 in
       let there : at + k < length image = omega (arith, ap length all_there, length-drop at image) in
       rw (same, n, e) (one_byte image (at + k) there (omega arith))
 
-module _ (image : List ℕ) (known structs : ℕ) (deep lets : ℕ) (inside : Bool) (cursor : Standing) (t : List ℕ) where
+module _ (image : List ℕ) (known structs : ℕ) (deep lets : ℕ) (inside : Bool) (cursor : ReadingAt) (t : List ℕ) where
   -- a literal's code, its value and its word type, in the bytes from the cursor's offset on
   pub short_literal : 3 ≤ length (bytes_from image cursor.offset) → get_or (bytes_from image cursor.offset) 0 0 ≡ 0
       → get_or (bytes_from image cursor.offset) 1 0 < 128

@@ -32,7 +32,7 @@ use Rattle.image.specs.Nodes.{read_head, read_node}
 use Rattle.image.specs.Image.{read_expr}
 use Rattle.image.specs.Answers.{on_answer}
 use Rattle.image.specs.Filled.{Filled, filled}
-use Rattle.reader.specs.Cursors.{Standing, standing}
+use Rattle.reader.specs.Cursors.{ReadingAt, reading_at}
 use Rattle.reader.specs.Reads.{Reading, part_rows, expr_ended, expr_refused, most_rows, expression_rows}
 use Rattle.reader.specs.Told.{BehindKept, TellsRows, tells_expr, tells_refused, tells_short, RowsRead}
 use Rattle.reader.specs.declared.Expression.{Expression}
@@ -88,7 +88,7 @@ module _ (image : List ℕ) (tables : Tables) (at : ℕ) (t : List ℕ) (not_lon
     (structs_few : length tables.structs ≤ 256) (small : (n : ℕ) → Small (get_or tables.types n Int)) where
   -- the node at the front of the part, and then the row that stops
   read_tells : most_rows (length image - at) ≤ whole_rows t
-      → let F : Reading = part_rows (drop at image) (length tables.types) (length tables.structs) 64 0 false (standing 0 0 0) t in
+      → let F : Reading = part_rows (drop at image) (length tables.types) (length tables.structs) 64 0 false (reading_at 0 0 0) t in
       Says (map packed tables.types) (length image - at) t (read_expr image tables at)
       (on_answer F.result (λ q. expr_refused at q F.table) (λ end. expr_ended at end F.table))
   unfolding read_expr
@@ -131,8 +131,8 @@ tail_whole image at = take_all (length image - at) (drop at image) (omega (arith
 
 -- what is answered where the node at the front of the part was read
 pub part_told : (image : List ℕ) (known structs at : ℕ) (t : List ℕ) → length image ≤ 16384 → at ≤ length image
-    → most_rows (length image - at) ≤ whole_rows t → {r : Result Standing Refusal} {t' : List ℕ}
-    → filled r t' ≡ part_rows (take (length image - at) (drop at image)) known structs 64 0 false (standing 0 0 0) t
+    → most_rows (length image - at) ≤ whole_rows t → {r : Result ReadingAt Refusal} {t' : List ℕ}
+    → filled r t' ≡ part_rows (take (length image - at) (drop at image)) known structs 64 0 false (reading_at 0 0 0) t
     → expression_rows image known structs at t ≡ on_answer r (λ q. expr_refused at q t') (λ end. expr_ended at end t')
 unfolding expression_rows
 part_told image known structs at t short in_image enough e =

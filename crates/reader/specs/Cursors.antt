@@ -11,26 +11,26 @@ use Rattle.calculus.specs.declared.Refusal.{Refusal}
 use Rattle.image.specs.Answers.{refusal}
 
 -- ---- where reading stands: at an offset, behind so many nodes and rows
-pub record Standing : Type 0 where
+pub record ReadingAt : Type 0 where
   pub offset : ℕ
   pub nodes : ℕ
   pub rows : ℕ
 
-abbrev pub standing : (offset nodes rows : ℕ) → Standing
-standing offset nodes rows = record { offset = offset; nodes = nodes; rows = rows }
+abbrev pub reading_at : (offset nodes rows : ℕ) → ReadingAt
+reading_at offset nodes rows = record { offset = offset; nodes = nodes; rows = rows }
 
-abbrev pub cursor_number : Standing → ℕ
+abbrev pub cursor_number : ReadingAt → ℕ
 cursor_number s = s.rows + 8192 * s.nodes + 33554432 * s.offset
 
-abbrev pub standing_in : (number : ℕ) → Standing
-standing_in number = standing (number / 33554432) (number / 8192 % 4096) (number % 8192)
+abbrev pub standing_in : (number : ℕ) → ReadingAt
+standing_in number = reading_at (number / 33554432) (number / 8192 % 4096) (number % 8192)
 
 -- behind the head of the node there, which ends at `next`: one node more
-unfoldable pub behind_head : Standing → (next : ℕ) → Standing
-behind_head s next = standing (next % 274877906944) ((s.nodes + 1) % 4096) s.rows
+unfoldable pub behind_head : ReadingAt → (next : ℕ) → ReadingAt
+behind_head s next = reading_at (next % 274877906944) ((s.nodes + 1) % 4096) s.rows
 
 -- behind one row more
-unfoldable pub behind_row : Standing → Standing
+unfoldable pub behind_row : ReadingAt → ReadingAt
 behind_row s = standing_in ((cursor_number s + 1) % 2 ^ 64)
 
 -- ---- what is around a node: how deep it may nest, how many lets it is inside of, whether it lies inside an unchecked block
@@ -71,16 +71,16 @@ fault_list = IllTyped ∷ Ends ∷ Unfit ∷ Format ∷ Limit ∷ Unknown ∷ Re
 unfoldable pub fault_of : (number : ℕ) → Fault
 fault_of number = get_or fault_list number IllTyped
 
-abbrev pub answer_number : Result Standing Refusal → ℕ
+abbrev pub answer_number : Result ReadingAt Refusal → ℕ
 answer_number (Ok s) = cursor_number s
 answer_number (Err q) = 9223372036854775808 + 274877906944 * fault_number q.fault + q.place % 274877906944
 
-abbrev pub answer_in : (number : ℕ) → Result Standing Refusal
+abbrev pub answer_in : (number : ℕ) → Result ReadingAt Refusal
 answer_in number =
     choose (ltb number 9223372036854775808)
     (λ _. Ok (standing_in number))
     (λ _. Err (refusal (fault_of (number / 274877906944 % 16)) (number % 274877906944)))
 
 -- what comes out of the call
-unfoldable pub crossed : Result Standing Refusal → Result Standing Refusal
+unfoldable pub crossed : Result ReadingAt Refusal → Result ReadingAt Refusal
 crossed reading = answer_in (answer_number reading)

@@ -7,29 +7,29 @@ use calculus::{Fault, Refusal};
 use std::marker::Model;
 
 // Where reading stands then, or a refusal.
-pub struct Answer {
+pub struct PackedAnswer {
     number: u64,
 }
 
-impl Model for Answer {
+impl Model for PackedAnswer {
     ghost use Rattle.std.specs.Prelude.{Result};
     ghost use Rattle.calculus.specs.declared.Refusal.{Refusal};
-    ghost use Rattle.reader.specs.Cursors.{Standing};
+    ghost use Rattle.reader.specs.Cursors.{ReadingAt};
 
-    ghost Value = { Result Standing Refusal };
+    ghost Value = { Result ReadingAt Refusal };
 
     ghost use Rattle.reader.specs.Cursors.{answer_in};
 
     ghost view = { λ answer. answer_in answer.number };
 }
 
-impl Answer {
+impl PackedAnswer {
     #[inline(always)]
     pub fn into_result(self) -> Result<Cursor, Refusal>
         ensures is { result ≡ self }
         ensures small { IfErr result (λ q. q.place < 2 ^ 38) }
     {
-        let Answer { number } = self;
+        let PackedAnswer { number } = self;
         if number < 9223372036854775808 {
             return Ok(number.into());
         }
@@ -41,20 +41,20 @@ impl Answer {
 }
 
 // A place that doesn't fit its bits is cut to them.
-impl From<Result<Cursor, Refusal>> for Answer {
+impl From<Result<Cursor, Refusal>> for PackedAnswer {
     ghost from_gives = { λ reading answer. answer ≡ crossed reading };
 
     #[inline(always)]
     #[tactic(auto, using(crate::proofs::Cursors::fault_below), unfolding(crate::specs::Cursors::crossed))]
-    fn from(reading: Result<Cursor, Refusal>) -> Answer {
+    fn from(reading: Result<Cursor, Refusal>) -> PackedAnswer {
         match reading {
-            Ok(cursor) => Answer {
+            Ok(cursor) => PackedAnswer {
                 number: cursor.into(),
             },
             Err(refusal) => {
                 let fault = u64::from(refusal.fault);
                 let place = refusal.place % 274877906944;
-                Answer {
+                PackedAnswer {
                     number: 9223372036854775808 + 274877906944 * fault + place as u64,
                 }
             }

@@ -1,6 +1,6 @@
 // Where reading stands, as one number.
 ghost use Rattle.std.specs.Prelude.{◌^◌, ◌<◌, ◌≡◌};
-ghost use Rattle.reader.specs.Cursors.{standing, standing_in, cursor_number, behind_head, behind_row};
+ghost use Rattle.reader.specs.Cursors.{reading_at, standing_in, cursor_number, behind_head, behind_row};
 
 use std::marker::Model;
 
@@ -11,9 +11,9 @@ pub struct Cursor {
 }
 
 impl Model for Cursor {
-    ghost use Rattle.reader.specs.Cursors.{Standing};
+    ghost use Rattle.reader.specs.Cursors.{ReadingAt};
 
-    ghost Value = { Standing };
+    ghost Value = { ReadingAt };
 
     ghost use Rattle.reader.specs.Cursors.{cursor_number, standing_in};
 
@@ -31,7 +31,7 @@ impl Model for Cursor {
 impl Cursor {
     // Before the first node.
     pub fn start() -> Cursor
-        ensures { result ≡ standing 0 0 0 }
+        ensures { result ≡ reading_at 0 0 0 }
     {
         Cursor { number: 0 }
     }

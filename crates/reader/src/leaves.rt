@@ -2,24 +2,24 @@
 ghost use Rattle.std.specs.Prelude.{◌≡◌, Ok};
 ghost use Rattle.image.specs.Answers.{told};
 ghost use Rattle.image.specs.Filled.{filled};
-ghost use Rattle.reader.specs.Reads.{row_put, literal_rows, variable_rows, malloc_rows, line_of};
+ghost use Rattle.reader.specs.Reads.{row_put, literal_rows, variable_rows, malloc_rows, part_line};
 
 use crate::around::Around;
 use crate::bytes::{below_at, number_at};
 use crate::cursor::Cursor;
-use crate::{Line, RowReader};
+use crate::{PartLine, RowReader};
 use calculus::{Fault, Operation, Refusal};
 use cells::Mode;
 use image::read_target;
 use numbers::Read;
-use tables::{Head, Task, put_row};
+use tables::{RowHead, Task, put_row};
 
 // The head of the row of the node at the cursor, without slot and left part.
 #[inline(always)]
-pub fn head_at(task: Task, around: Around, cursor: Cursor) -> Head
+pub fn head_at(task: Task, around: Around, cursor: Cursor) -> RowHead
     ensures { result ≡ record { task = task; inside = around.inside; slot = 0; left = 0; node = cursor.nodes } }
 {
-    Head {
+    RowHead {
         task,
         inside: around.is_inside(),
         slot: 0,
@@ -30,7 +30,7 @@ pub fn head_at(task: Task, around: Around, cursor: Cursor) -> Head
 
 // A row behind the rows up to `end`: where reading stands then.
 #[inline(always)]
-pub fn write_row(rows: &mut [u64], end: Cursor, head: Head, datum: u64) -> Cursor
+pub fn write_row(rows: &mut [u64], end: Cursor, head: RowHead, datum: u64) -> Cursor
     ensures { filled (Ok result) rows.new ≡ row_put end head datum rows.old }
 {
     put_row(rows, end.rows(), u64::from(head), datum);
@@ -52,7 +52,7 @@ impl RowReader<'_> {
     {
         let value = number_at(self.image, at)?;
         let number = below_at(self.image, value.next, self.known)?;
-        let head = Head {
+        let head = RowHead {
             slot: number.value as usize,
             ..head_at(Task::Literal, within, cursor)
         };
@@ -73,7 +73,7 @@ impl RowReader<'_> {
         ensures { filled result rows.new ≡ variable_rows self.now.image.now within.lets within.inside cursor at rows.old }
     {
         let out = below_at(self.image, at, within.lets())?;
-        let head = Head {
+        let head = RowHead {
             slot: out.value as usize,
             ..head_at(Task::Variable, within, cursor)
         };
@@ -101,17 +101,17 @@ impl RowReader<'_> {
 
     // What stands at `at`, between the code of a node with one part, which is at `first`, and its part. No other node has the code.
     #[inline(always)]
-    #[tactic(auto, unfolding(crate::specs::Reads::line_of))]
+    #[tactic(auto, unfolding(crate::specs::Reads::part_line))]
     pub fn read_line(
         &self,
         within: Around,
         first: usize,
         operation: Operation,
         at: usize,
-    ) -> Result<Read<Line>, Refusal>
-        ensures { result ≡ told (line_of self.now.image.now self.now.known within.inside first operation at) }
+    ) -> Result<Read<PartLine>, Refusal>
+        ensures { result ≡ told (part_line self.now.image.now self.now.known within.inside first operation at) }
     {
-        let plain = Line {
+        let plain = PartLine {
             task: Task::Read,
             slot: 0,
             datum: 0,
@@ -119,7 +119,7 @@ impl RowReader<'_> {
         };
         let (value, next) = match operation {
             Operation::Unchecked => (
-                Line {
+                PartLine {
                     task: Task::Unchecked,
                     inside: true,
                     ..plain
@@ -130,7 +130,7 @@ impl RowReader<'_> {
                 let number = below_at(self.image, at, self.known)?;
                 let slot = number.value as usize;
                 (
-                    Line {
+                    PartLine {
                         task: Task::Cast,
                         slot,
                         ..plain
@@ -143,7 +143,7 @@ impl RowReader<'_> {
                 let field = number_at(self.image, at)?;
                 let datum = field.value;
                 (
-                    Line {
+                    PartLine {
                         task: Task::Field,
                         datum,
                         ..plain

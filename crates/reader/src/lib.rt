@@ -54,7 +54,7 @@ struct RowReader<'a> {
 // What stands behind the code of a node with one part: what its row does, with slot and datum, and whether the part lies inside an unchecked
 // block.
 #[derive(Clone, Copy)]
-struct Line {
+struct PartLine {
     task: Task,
     slot: usize,
     datum: u64,

@@ -5,20 +5,20 @@ ghost use Rattle.std.specs.Prelude.{◌≡◌};
 ghost use Rattle.image.specs.Filled.{filled};
 ghost use Rattle.reader.specs.Reads.{node_rows, part_rows, act_rows, let_rows, one_rows};
 
-use crate::{Line, RowReader};
-use crate::answer::Answer;
+use crate::answer::PackedAnswer;
 use crate::around::Around;
 use crate::bytes::number_at;
 use crate::cursor::Cursor;
 use crate::leaves::{head_at, write_row};
+use crate::{PartLine, RowReader};
 use calculus::{Act, Fault, Operation, Refusal};
-use tables::{Head, Task};
+use tables::{RowHead, Task};
 
 impl RowReader<'_> {
     // The node at the cursor with its parts: where reading stands behind it, or its refusal.
     #[cycle(read_nodes)]
     #[inline(never)]
-    pub fn read_part(&self, rows: &mut [u64], around: Around, cursor: Cursor) -> Answer
+    pub fn read_part(&self, rows: &mut [u64], around: Around, cursor: Cursor) -> PackedAnswer
         ensures { filled result rows.new
             ≡ part_rows self.now.image.now self.now.known self.now.structs around.depth around.lets around.inside cursor rows.old }
     {
@@ -74,11 +74,16 @@ impl RowReader<'_> {
             within.lets within.inside cursor operation at rows.old }
     {
         let line = self.read_line(within, cursor.offset(), operation, at)?;
-        let Line { task, slot, datum, inside } = line.value;
+        let PartLine {
+            task,
+            slot,
+            datum,
+            inside,
+        } = line.value;
         let start = cursor.behind_head(line.next);
         let around = within.with_inside(inside);
         let end = self.read_part(rows, around, start).into_result()?;
-        let head = Head {
+        let head = RowHead {
             slot,
             ..head_at(task, within, cursor)
         };
@@ -104,7 +109,7 @@ impl RowReader<'_> {
         let start = cursor.behind_head(at);
         let left = self.read_part(rows, within, start).into_result()?;
         let end = self.read_part(rows, within, left).into_result()?;
-        let head = Head {
+        let head = RowHead {
             left: left.rows(),
             ..head_at(Task::Acts(act), within, cursor)
         };
@@ -132,7 +137,7 @@ impl RowReader<'_> {
         let body = write_row(rows, bound, head_at(Task::Bind, within, cursor), 0);
         let around = within.under_let();
         let end = self.read_part(rows, around, body).into_result()?;
-        let head = Head {
+        let head = RowHead {
             left: bound.rows(),
             ..head_at(Task::Unbind, within, cursor)
         };

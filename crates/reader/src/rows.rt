@@ -8,7 +8,7 @@ use crate::around::Around;
 use crate::cursor::Cursor;
 use crate::{Expression, NotRead, RowReader};
 use calculus::{Fault, Refusal};
-use tables::{Head, Task, put_row};
+use tables::{RowHead, Task, put_row};
 
 // The expression that starts at `at` of the image, where the word types are those below `known`, int among them, and the structs those
 // below `structs`. It is read in the part of the image that starts there, and its places are carried back.
@@ -64,7 +64,7 @@ fn end_rows(rows: &mut [u64], at: usize, end: Cursor) -> Expression
     requires { at < 2 ^ 32 }
     ensures { filled (Ok result) rows.new ≡ expr_ended at end rows.old }
 {
-    let head = Head {
+    let head = RowHead {
         task: Task::Stop,
         inside: false,
         slot: 0,

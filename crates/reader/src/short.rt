@@ -8,7 +8,7 @@ use crate::RowReader;
 use crate::around::Around;
 use crate::cursor::Cursor;
 use crate::leaves::{head_at, write_row};
-use tables::{Head, Task};
+use tables::{RowHead, Task};
 
 impl RowReader<'_> {
     // Such a leaf, if one is at the cursor, with known numbers and with room for it.
@@ -23,23 +23,20 @@ impl RowReader<'_> {
             return None;
         };
         match *code {
-            0 if *first < 128
-                && *second < 128
-                && u64::from(*second) < self.known
-                && has_room(around, cursor) =>
-            {
-                let head = Head {
+            0
+                if *first < 128
+                    && *second < 128
+                    && u64::from(*second) < self.known
+                    && has_room(around, cursor) => {
+                let head = RowHead {
                     slot: usize::from(*second),
                     ..head_at(Task::Literal, around, cursor)
                 };
                 let end = cursor.behind_head(at + 3);
                 Some(write_row(rows, end, head, u64::from(*first)))
             }
-            1 if *first < 128
-                && u64::from(*first) < around.lets()
-                && has_room(around, cursor) =>
-            {
-                let head = Head {
+            1 if *first < 128 && u64::from(*first) < around.lets() && has_room(around, cursor) => {
+                let head = RowHead {
                     slot: usize::from(*first),
                     ..head_at(Task::Variable, around, cursor)
                 };

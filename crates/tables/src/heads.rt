@@ -2,7 +2,7 @@
 ghost use Rattle.std.specs.Prelude.{◌≡◌};
 ghost use Rattle.tables.specs.Heads.{task_number, task_with, head_number, task_in, inside_in, slot_in, left_in, node_in};
 
-use crate::{Head, Task};
+use crate::{RowHead, Task};
 use calculus::Act;
 
 // The number of what a row does.
@@ -52,11 +52,11 @@ impl From<u64> for Task {
 }
 
 // The head as one number; a field that doesn't fit its bits is cut to them.
-impl From<Head> for u64 {
+impl From<RowHead> for u64 {
     ghost from_gives = { λ head number. number ≡ head_number head.task head.inside head.slot head.left head.node };
 
     #[tactic(auto, using(crate::proofs::Fields::task_below), unfolding(crate::specs::Heads::head_number))]
-    fn from(head: Head) -> u64 {
+    fn from(head: RowHead) -> u64 {
         u64::from(head.task)
             + 32 * u64::from(head.inside)
             + 64 * (head.slot % 512) as u64

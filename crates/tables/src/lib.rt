@@ -37,7 +37,7 @@ pub enum Task {
 
 // The head of a row, field by field.
 #[derive(Clone, Copy, Debug, PartialEq, Eq)]
-pub struct Head {
+pub struct RowHead {
     pub task: Task,
     // Its redex lies inside an unchecked block.
     pub inside: bool,
