@@ -1,4 +1,4 @@
-// A heap in lent numbers, two a word, and the total accessors of lent numbers.
+// A heap in lent numbers, two a word, and the total accessors of lent numbers. A word is no struct: the C interface lends numbers, any at all.
 ghost use Rattle.std.specs.Prelude.{◌≡◌, ◌+◌, ◌<◌, min, slice_index, slice_set};
 ghost use Rattle.cells.specs.Lent.{heap_words, word_at, lent_number, stored, put_word, cleared, lowest_run};
 ghost use Rattle.cells.specs.Heap.{undefined};

@@ -74,7 +74,8 @@ fn answer_with<const CELLS: usize, const NODES: usize, const ENTRIES: usize>(
     )
 }
 
-// The answer, with tables that are long enough for any content of the image.
+// The answer, with tables that are long enough for any content of the image. They are lent one by one, since the loader writes four of them
+// that the judge and the machine then only read.
 fn answer_in(
     heap: &mut [u64],
     structs: &mut [u64],

@@ -1,4 +1,5 @@
 // Rows of a lent table: as many numbers each as its stride.
+// The tables are numbers and no typed rows, since `load` promises what is left in them whatever numbers are lent.
 ghost use Rattle.std.specs.Prelude.{◌≡◌, ◌<◌};
 ghost use Rattle.image.specs.Filled.{row_stored};
 

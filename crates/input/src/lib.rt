@@ -6,7 +6,8 @@ ghost use Rattle.std.specs.Prelude.{◌≤◌, length, IfOk};
 use std::io;
 use std::io::Read;
 
-// Reads until `bytes` is full or the input ends, and answers how many bytes it put at the front of `bytes`.
+// Reads until `bytes` is full or the input ends, and answers how many bytes it put at the front of `bytes`. By `while`, since each read
+// gives as many bytes as it likes.
 pub fn read_full(input: &mut impl Read, bytes: &mut [u8]) -> io::Result<usize>
     ensures { IfOk result (λ n. n ≤ length bytes.new) }
 {

@@ -61,7 +61,8 @@ fn look_fields(
 
 // `count` entries from `first` on have this code: then they are marked. What a mark reaches over has the same code and is passed over. Each
 // mark that is met is raised to reach as far as these entries do, so that the next pass over them takes one step from there: otherwise
-// every pass would take the small steps again. If an entry is off, the marks that were raised too far are asked for no more.
+// every pass would take the small steps again. By `while`, since a turn passes over as many entries as a mark reaches. If an entry is off,
+// the marks that were raised too far are asked for no more.
 fn look_alike(
     marks: &mut [u16],
     queue: &mut [u64],
@@ -175,7 +176,8 @@ fn node_look(
     Some(tail)
 }
 
-// How many nodes there are before the first literal that isn't well typed over the cells: all of them if there is none.
+// How many nodes there are before the first literal that isn't well typed over the cells: all of them if there is none. It is no Option,
+// which takes a word more in the frame of each call below.
 pub fn first_bad(marks: &mut [u16], queue: &mut [u64], script: ScriptTables) -> usize
     ensures { found result marks.new queue.new
         ≡ first_bad script.entry.structs.now script.entry.types.now script.entry.cells.now script.entry.nodes.now

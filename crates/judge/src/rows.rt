@@ -1,4 +1,5 @@
 // Numbers of the node table and of the cell table by their place.
+// They are numbers and no typed rows, since `judge_script` promises its answer whatever numbers they hold.
 ghost use Rattle.std.specs.Prelude.{◌<◌, ◌≡◌};
 ghost use Rattle.judge.specs.Rows.{table_number, node_number, operation_at, entry_at};
 

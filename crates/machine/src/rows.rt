@@ -1,5 +1,6 @@
 // Total accessors of the lent tables in rows of four numbers: the nodes, and the frames (node, whether it lies inside an unchecked block,
 // then the value of its first part with the code of its kind, 0 while that part is evaluated). A row that is not whole is not there.
+// The tables are numbers and no typed rows, since `run` promises what it does whatever numbers they hold.
 ghost use Rattle.std.specs.Prelude.{◌≡◌, ◌<◌};
 ghost use Rattle.machine.specs.Rows.{in_row, node_at, frame_at, framed, kept};
 

@@ -12,7 +12,7 @@ use std::ops::ControlFlow;
 use tables::{Task, datum_at, head_at, is_inside, slot_of, task_of, type_code};
 use yields::{Hint, Terms};
 
-// Runs the script over the heap, on its terms.
+// Runs the script over the heap, on its terms. The three that are written stay apart, since a row lends one or two of them on.
 pub fn run(heap: &mut [u64], stack: &mut [u64], bound: &mut [u64], script: &RowScript) -> Outcome
     ensures { StepRan script.now.rows.now script.now.structs.now script.now.types.now script.now.terms heap.old stack.old bound.old
         result heap.new stack.new bound.new }

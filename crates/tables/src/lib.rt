@@ -1,5 +1,6 @@
 // The lent tables that hold a script: the rows of its expression in run order, its structs and its word types. Here
 // stand their strides, the fields of a row's head and the tags in a kind's code.
+// They are numbers and no typed rows, and kinds are codes, since what is answered is promised whatever numbers are lent.
 #![tactic(auto)]
 
 use calculus::Act;
