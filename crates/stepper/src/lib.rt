@@ -1,6 +1,7 @@
 // The machine over rows in run order: it runs a script over the lent heap as "Steps" and "How a run ends" say. The rows stay as loaded; the
 // values that wait for their node stand on a lent stack, and bound values in a lent list. There a value is a number with the code of its
 // kind, so that nothing is taken apart and put together again on the way; a word of the heap is read and assigned as a cell.
+// It is no instance of the machine over nodes: there a step leads to a node or a frame, here to the next row, and the states differ.
 #![tactic(auto)]
 
 use calculus::Outcome;
