@@ -1,5 +1,5 @@
 // Answers every test case of a text: a line `W LIMIT HEX` is the heap's words, the steps allowed and the image, `-` where it is empty.
-ghost use Rattle.std.specs.Prelude.{◌≤◌, ◌<◌, IfSome};
+ghost use Rattle.std.specs.Prelude.{◌≤◌, ◌<◌, length, IfSome};
 
 use std::io;
 
@@ -35,7 +35,9 @@ fn answer_line(
 }
 
 // The decimal number at the front, as it wraps at 64 bits, 0 where no digit is there, and what follows it.
-fn decimal(text: &[u8]) -> (u64, &[u8]) {
+fn decimal(text: &[u8]) -> (u64, &[u8])
+    ensures { length result.1.now ≤ length text.now }
+{
     let count = text.iter().position(|byte| !byte.is_ascii_digit());
     let (digits, rest) = text.split_at(count.unwrap_or(text.len()));
     let value = digits.iter().fold(0u64, |value, byte| {
