@@ -28,7 +28,7 @@ module _ (image : List ℕ) (at : ℕ) where
       → number image j ≡ got (get_or (bytes_from image at) k 0) next
   number_there k l h j next e n =
       let same : get_or (bytes_from image at) k 0 ≡ get_or image (at + k) 0 =
-          ap (λ (l : List ℕ). get_or l k 0) all_there ∙ get_or-drop at image k 0 in
+      ap (λ (l : List ℕ). get_or l k 0) all_there ∙ get_or-drop at image k 0 in
       let there : at + k < length image = omega (arith, ap length all_there, length-drop at image) in
       rw (same, n, e) (one_byte image (at + k) there (omega arith))
 

@@ -4,7 +4,7 @@ ghost use Rattle.reader.specs.Cursors.{standing, standing_in, cursor_number, beh
 
 use std::marker::Model;
 
-// At this offset, behind so many nodes and rows. It is one number, since three would go through memory at each call.
+// At this offset, behind so many nodes and rows.
 #[derive(Clone, Copy)]
 pub struct Cursor {
     number: u64,

@@ -9,6 +9,7 @@ use calculus::Act;
 impl From<Task> for u64 {
     ghost from_gives = { λ task number. number ≡ task_number task };
 
+    #[inline(always)]
     fn from(task: Task) -> u64 {
         match task {
             Task::Stop => 0,
@@ -55,6 +56,7 @@ impl From<u64> for Task {
 impl From<Head> for u64 {
     ghost from_gives = { λ head number. number ≡ head_number head.task head.inside head.slot head.left head.node };
 
+    #[inline(always)]
     #[tactic(auto, using(crate::proofs::Fields::task_below), unfolding(crate::specs::Heads::head_number))]
     fn from(head: Head) -> u64 {
         u64::from(head.task)
