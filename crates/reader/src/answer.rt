@@ -6,7 +6,7 @@ use crate::cursor::Cursor;
 use calculus::{Fault, Refusal};
 use std::marker::Model;
 
-// Where reading stands then, or a refusal.
+// Where reading stands then, or a refusal. As a Result it goes through memory, and a reading took 1.2 times as long (1.1 times the instructions).
 pub struct PackedAnswer {
     number: u64,
 }

@@ -14,13 +14,13 @@ use numbers::Read;
 pub fn number_at(image: &[u8], at: usize) -> Result<Read<u64>, Refusal>
     ensures { result ≡ told (number image.now at) }
 {
-    if at < image.len() && image[at] < 128 {
-        return Ok(Read {
-            value: u64::from(image[at]),
+    match image.get(at) {
+        Some(byte) if *byte < 128 => Ok(Read {
+            value: u64::from(*byte),
             next: at + 1,
-        });
+        }),
+        _ => read_limited(image, at),
     }
-    read_limited(image, at)
 }
 
 // The number at `at`, below `limit`; another is unknown.

@@ -4,7 +4,7 @@ ghost use Rattle.reader.specs.Cursors.{reading_at, standing_in, cursor_number, b
 
 use std::marker::Model;
 
-// At this offset, behind so many nodes and rows. It is one number, since three would go through memory at each call.
+// At this offset, behind so many nodes and rows.
 #[derive(Clone, Copy)]
 pub struct Cursor {
     number: u64,

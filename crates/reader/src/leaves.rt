@@ -1,8 +1,8 @@
 // Nodes without parts, and what stands before the part of a node with one: numbers behind a node's code, into its row.
 ghost use Rattle.std.specs.Prelude.{◌≡◌, Ok};
-ghost use Rattle.image.specs.Answers.{told};
+ghost use Rattle.image.specs.Answers.{told, with_next};
 ghost use Rattle.image.specs.Filled.{filled};
-ghost use Rattle.reader.specs.Reads.{row_put, literal_rows, variable_rows, malloc_rows, part_line};
+ghost use Rattle.reader.specs.Reads.{row_put, literal_rows, variable_rows, malloc_rows, part_line, one_line, row_head};
 
 use crate::around::Around;
 use crate::bytes::{below_at, number_at};
@@ -16,8 +16,8 @@ use tables::{RowHead, Task, put_row};
 
 // The head of the row of the node at the cursor, without slot and left part.
 #[inline(always)]
-pub fn head_at(task: Task, around: Around, cursor: Cursor) -> RowHead
-    ensures { result ≡ record { task = task; inside = around.inside; slot = 0; left = 0; node = cursor.nodes } }
+pub fn node_head(task: Task, around: Around, cursor: Cursor) -> RowHead
+    ensures { result ≡ row_head task around.inside 0 0 cursor }
 {
     RowHead {
         task,
@@ -54,7 +54,7 @@ impl RowReader<'_> {
         let number = below_at(self.image, value.next, self.known)?;
         let head = RowHead {
             slot: number.value as usize,
-            ..head_at(Task::Literal, within, cursor)
+            ..node_head(Task::Literal, within, cursor)
         };
         let end = cursor.behind_head(number.next);
         Ok(write_row(rows, end, head, value.value))
@@ -75,7 +75,7 @@ impl RowReader<'_> {
         let out = below_at(self.image, at, within.lets())?;
         let head = RowHead {
             slot: out.value as usize,
-            ..head_at(Task::Variable, within, cursor)
+            ..node_head(Task::Variable, within, cursor)
         };
         let end = cursor.behind_head(out.next);
         Ok(write_row(rows, end, head, 0))
@@ -94,7 +94,7 @@ impl RowReader<'_> {
             ≡ malloc_rows self.now.image.now self.now.known self.now.structs within.inside cursor at rows.old }
     {
         let target = read_target(self.image, at, self.structs, self.known, Mode::Checked)?;
-        let head = head_at(Task::Malloc, within, cursor);
+        let head = node_head(Task::Malloc, within, cursor);
         let end = cursor.behind_head(target.next);
         Ok(write_row(rows, end, head, target.value))
     }
@@ -111,53 +111,37 @@ impl RowReader<'_> {
     ) -> Result<Read<PartLine>, Refusal>
         ensures { result ≡ told (part_line self.now.image.now self.now.known within.inside first operation at) }
     {
-        let plain = PartLine {
-            task: Task::Read,
-            slot: 0,
-            datum: 0,
-            inside: within.is_inside(),
-        };
-        let (value, next) = match operation {
-            Operation::Unchecked => (
-                PartLine {
-                    task: Task::Unchecked,
-                    inside: true,
-                    ..plain
-                },
-                at,
-            ),
+        let inside = within.is_inside();
+        match operation {
+            Operation::Unchecked => Ok(line(Task::Unchecked, 0, 0, true, at)),
             Operation::Cast => {
                 let number = below_at(self.image, at, self.known)?;
                 let slot = number.value as usize;
-                (
-                    PartLine {
-                        task: Task::Cast,
-                        slot,
-                        ..plain
-                    },
-                    number.next,
-                )
+                Ok(line(Task::Cast, slot, 0, inside, number.next))
             }
-            Operation::Read => (plain, at),
+            Operation::Read => Ok(line(Task::Read, 0, 0, inside, at)),
             Operation::Field => {
                 let field = number_at(self.image, at)?;
-                let datum = field.value;
-                (
-                    PartLine {
-                        task: Task::Field,
-                        datum,
-                        ..plain
-                    },
-                    field.next,
-                )
+                Ok(line(Task::Field, 0, field.value, inside, field.next))
             }
-            _ => {
-                return Err(Refusal {
-                    fault: Fault::Unknown,
-                    place: first,
-                });
-            }
-        };
-        Ok(Read { value, next })
+            _ => Err(Refusal {
+                fault: Fault::Unknown,
+                place: first,
+            }),
+        }
     }
+}
+
+// Such a line, and the offset behind it.
+#[inline(always)]
+fn line(task: Task, slot: usize, datum: u64, inside: bool, next: usize) -> Read<PartLine>
+    ensures { result ≡ with_next (one_line task slot datum inside) next }
+{
+    let value = PartLine {
+        task,
+        slot,
+        datum,
+        inside,
+    };
+    Read { value, next }
 }

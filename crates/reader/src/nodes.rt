@@ -1,6 +1,5 @@
-// The nodes of an expression, by recursion on their parts: the depth that is left falls at every part. What crosses the recursive call is one
-// number each way, since a struct or a Result goes through memory there: with a Result as the answer a reading took 1.35 times as many
-// instructions, and 1.6 times as long.
+// The nodes of an expression, by recursion on their parts: the depth that is left falls at every part.
+// What crosses the call is one number each way: with structs of fields and a Result a reading took twice as long (1.6 times the instructions).
 ghost use Rattle.std.specs.Prelude.{◌≡◌};
 ghost use Rattle.image.specs.Filled.{filled};
 ghost use Rattle.reader.specs.Reads.{node_rows, part_rows, act_rows, let_rows, one_rows};
@@ -9,13 +8,14 @@ use crate::answer::PackedAnswer;
 use crate::around::Around;
 use crate::bytes::number_at;
 use crate::cursor::Cursor;
-use crate::leaves::{head_at, write_row};
+use crate::leaves::{node_head, write_row};
 use crate::{PartLine, RowReader};
 use calculus::{Act, Fault, Operation, Refusal};
 use tables::{RowHead, Task};
 
 impl RowReader<'_> {
-    // The node at the cursor with its parts: where reading stands behind it, or its refusal.
+    // The node at the cursor with its parts: where reading stands behind it, or its refusal. What it calls is inlined here, so that no Result
+    // goes through memory.
     #[cycle(read_nodes)]
     #[inline(never)]
     pub fn read_part(&self, rows: &mut [u64], around: Around, cursor: Cursor) -> PackedAnswer
@@ -28,7 +28,7 @@ impl RowReader<'_> {
         }
     }
 
-    // The same before it crosses the call. A fault of the code's own number goes first, then one level or one node too many.
+    // The same before the answer crosses the call. A fault of the code's own number goes first, then one level or one node too many.
     #[cycle(read_nodes)]
     #[inline(always)]
     #[tactic(auto, unfolding(crate::specs::Reads::node_rows))]
@@ -85,7 +85,7 @@ impl RowReader<'_> {
         let end = self.read_part(rows, around, start).into_result()?;
         let head = RowHead {
             slot,
-            ..head_at(task, within, cursor)
+            ..node_head(task, within, cursor)
         };
         Ok(write_row(rows, end, head, datum))
     }
@@ -111,7 +111,7 @@ impl RowReader<'_> {
         let end = self.read_part(rows, within, left).into_result()?;
         let head = RowHead {
             left: left.rows(),
-            ..head_at(Task::Acts(act), within, cursor)
+            ..node_head(Task::Acts(act), within, cursor)
         };
         Ok(write_row(rows, end, head, 0))
     }
@@ -134,12 +134,12 @@ impl RowReader<'_> {
     {
         let start = cursor.behind_head(at);
         let bound = self.read_part(rows, within, start).into_result()?;
-        let body = write_row(rows, bound, head_at(Task::Bind, within, cursor), 0);
+        let body = write_row(rows, bound, node_head(Task::Bind, within, cursor), 0);
         let around = within.under_let();
         let end = self.read_part(rows, around, body).into_result()?;
         let head = RowHead {
             left: bound.rows(),
-            ..head_at(Task::Unbind, within, cursor)
+            ..node_head(Task::Unbind, within, cursor)
         };
         Ok(write_row(rows, end, head, 0))
     }

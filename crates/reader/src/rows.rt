@@ -22,16 +22,12 @@ pub fn read_rows(
     ensures { RowsRead image.now known structs at rows.old result rows.new }
 {
     if 16384 < image.len() {
-        return Err(NotRead::Refused(Refusal {
-            fault: Fault::Limit,
-            place: 0,
-        }));
+        let fault = Fault::Limit;
+        return Err(Refusal { fault, place: 0 }.into());
     }
     if image.len() < at {
-        return Err(NotRead::Refused(Refusal {
-            fault: Fault::Ends,
-            place: at,
-        }));
+        let fault = Fault::Ends;
+        return Err(Refusal { fault, place: at }.into());
     }
     if rows.len() / 2 < most_rows(image.len() - at) {
         return Err(NotRead::Short);
@@ -44,10 +40,10 @@ pub fn read_rows(
     let answer = reader.read_part(rows, Around::outermost(), Cursor::start());
     match answer.into_result() {
         Ok(end) => Ok(end_rows(rows, at, end)),
-        Err(refusal) => Err(NotRead::Refused(Refusal {
-            place: at + refusal.place,
-            ..refusal
-        })),
+        Err(refusal) => {
+            let place = at + refusal.place;
+            Err(Refusal { place, ..refusal }.into())
+        }
     }
 }
 

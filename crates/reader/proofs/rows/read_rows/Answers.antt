@@ -28,6 +28,7 @@ returns-in-Ok c =
 pub returns-in-Err : goal.returns-in-Err
 returns-in-Err c =
     rows_read
+    (rw c.into-in-Err.ensures
     (sym
     (part_told _ _ _ _ _ c.if-image-gt16384.false c.if-image-at.false (rw c.most_rows.ensures at c.if-rows-most_rows.false)
-    (rw (c.outermost.ensures, c.start.ensures, ← c.in-Err.ensures.is) at c.read_part-answer.ensures)))
+    (rw (c.outermost.ensures, c.start.ensures, ← c.in-Err.ensures.is) at c.read_part-answer.ensures))))
