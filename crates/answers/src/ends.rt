@@ -5,7 +5,7 @@ ghost use Rattle.calculus.specs.Answers.{fault_number, end_number, end_value, en
 use calculus::{End, Fault};
 use cells::Kind;
 
-// The number of a fault, 1 to 10.
+// The number of a fault, 1 to 10: a line over `From`, which stays since the page of promises names it.
 pub fn fault_number(fault: Fault) -> u64
     ensures { result ≡ fault_number fault }
 {

@@ -6,7 +6,7 @@ use std::io;
 
 mod lines;
 
-// Reads all of standard input, of which `make` writes no more than this.
+// Reads all of standard input, of which `make` writes no more than this. Nothing is taken from the heap.
 fn main(rt: HostRuntime) -> io::Result<()> {
     let mut text = [0u8; 524288];
     let read = read_full(&mut rt.stdin(), &mut text)?;

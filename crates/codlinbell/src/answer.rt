@@ -38,7 +38,7 @@ pub fn answer_within(image: &[u8], heap: &mut [u64], limit: u64) -> Answer
 }
 
 // The same, with so many numbers for the cells, so many for the nodes, and so many entries for the judge's marks and queue. Each length has
-// a stack frame of its own, of 256 KiB at most.
+// a stack frame of its own, of 256 KiB at most: the library takes nothing from the heap.
 #[inline(never)]
 fn answer_with<const CELLS: usize, const NODES: usize, const ENTRIES: usize>(
     heap: &mut [u64],

@@ -4,7 +4,7 @@ ghost use Rattle.codlinbell.specs.Placing.{cells_stored};
 
 use cells::put_word;
 
-// Puts every row of the cell table into the heap: address, value, packed code of the kind.
+// Puts every row of the cell table into the heap: address, value, packed code of the kind. Rows are three numbers each, as `load` left them.
 pub fn place_cells(heap: &mut [u64], rows: &[u64])
     ensures { heap.new ≡ cells_stored rows.now heap.old }
 {

@@ -10,7 +10,8 @@ use cells::Kind;
 use image::load;
 use judge::judge_script;
 
-// The verdict on the image over a heap of `words` words, of which at most 4,096 are used.
+// The verdict on the image over a heap of `words` words, of which at most 4,096 are used. The tables are arrays of the longest length, since
+// the library takes nothing from the heap.
 pub fn judge_image(image: &[u8], words: usize) -> Result<Kind, Refusal>
     ensures { as_verdict result ≡ announced (min words 4096) image.now }
 {

@@ -1,4 +1,5 @@
 // The typing rules: the type of node i from those of its parts, by their codes. `mode` is that of the code around the node.
+// Kinds are codes, as the lent tables have them: the answer is promised whatever numbers they hold.
 ghost use Rattle.std.specs.Prelude.{◌≡◌};
 ghost use Rattle.judge.specs.Rules.{no_rule_told, follows_code, castable_code, access_told, field_told, cast_told, one_told};
 ghost use Rattle.judge.specs.Rules.{assign_told, summable, sum_told, act_told, two_told};

@@ -62,7 +62,7 @@ impl From<Result<Cursor, Refusal>> for PackedAnswer {
     }
 }
 
-// The fault with a number, and the last one where none has it.
+// The fault with a number, and the last one where none has it: by hand, since no other place reads a fault off a number.
 #[tactic(auto, using(crate::proofs::Cursors::no_fault), unfolding(crate::specs::Cursors::fault_of))]
 fn fault_of(number: u64) -> Fault
     ensures { result ≡ fault_of number }

@@ -1,4 +1,5 @@
 // The expression of an image, read into rows in run order.
+// It is no instance of the image's own reader: that writes a node before its parts, this one its row behind theirs.
 #![tactic(auto)]
 
 ghost use Rattle.std.specs.Prelude.{◌≡◌};

@@ -1,5 +1,5 @@
 // The runner: reads an image from standard input, runs it over a heap of 1,024 words and prints one line, which is the library's.
-// One byte more than an image may have is read, so that a longer input is told by its length.
+// One byte more than an image may have is read, so that a longer input is told by its length. Nothing is taken from the heap.
 #![tactic(auto)]
 
 use input::read_full;
