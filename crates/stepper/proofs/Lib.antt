@@ -10,3 +10,4 @@ pub mod Does
 pub mod Follows
 pub mod NextStep
 pub mod RunSteps
+pub mod NeverGoes

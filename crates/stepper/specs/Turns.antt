@@ -44,7 +44,7 @@ pub record Advanced : Type 0 where
 abbrev pub advanced_to : ControlFlow Outcome StepState → (heap stack bound : List ℕ) → Advanced
 advanced_to f ws stack bound = record { flow = f; heap = ws; stack = stack; bound = bound }
 
--- there are not so many rows without a step
+-- there are not so many rows without a step: what `advanced` gives `flow_of` is never the first case, by `never_goes` of proofs/NeverGoes.antt
 abbrev pub turn_flow : StepTurn → ControlFlow Outcome StepState
 turn_flow (Goes s) = Break (outcome_of Stuck s.steps s.first)
 turn_flow (Steps s) = Continue s

@@ -10,7 +10,7 @@ use yields::{Hint, Yield};
 
 impl StepState {
     // Another value on top, and the next row.
-    pub fn topped(self, value: u64, code: u64) -> StepState
+    pub(crate) fn topped(self, value: u64, code: u64) -> StepState
         ensures { result ≡ states.topped self value code }
     {
         StepState {
@@ -23,7 +23,7 @@ impl StepState {
     }
 
     // So many values on the stack, and so many bound.
-    pub fn sized(self, height: usize, lets: usize) -> StepState
+    pub(crate) fn sized(self, height: usize, lets: usize) -> StepState
         ensures { result ≡ states.resized self height lets }
     {
         StepState {
@@ -34,14 +34,14 @@ impl StepState {
     }
 
     // The row that was looked at lies inside an unchecked block, or not.
-    pub fn looked(self, inside: bool) -> StepState
+    pub(crate) fn looked(self, inside: bool) -> StepState
         ensures { result ≡ states.looked self inside }
     {
         StepState { inside, ..self }
     }
 
     // Another place for malloc to start to look.
-    pub fn hinted(self, size: usize, from: usize) -> StepState
+    pub(crate) fn hinted(self, size: usize, from: usize) -> StepState
         ensures { result ≡ states.hinted self size from }
     {
         StepState {
@@ -51,7 +51,7 @@ impl StepState {
     }
 
     // One step more. Below the limit this does not wrap.
-    pub fn counted(self) -> StepState
+    pub(crate) fn counted(self) -> StepState
         ensures { result ≡ states.counting self }
     {
         StepState {
@@ -73,7 +73,7 @@ impl StepState {
     }
 
     // What a node gives is on top, a step later.
-    pub fn settle(self, limit: u64, given: Yield) -> StepTurn
+    pub(crate) fn settle(self, limit: u64, given: Yield) -> StepTurn
         ensures { result ≡ states.settled_by limit self given }
     {
         match given {
@@ -84,7 +84,7 @@ impl StepState {
     }
 
     // A step, or More where the limit forbids it.
-    pub fn count_within(self, limit: u64) -> StepTurn
+    pub(crate) fn count_within(self, limit: u64) -> StepTurn
         ensures { result ≡ states.count_within limit self }
     {
         if limit <= self.steps {
@@ -95,7 +95,7 @@ impl StepState {
     }
 
     // The whole expression is the value on top.
-    pub fn done(self) -> StepTurn
+    pub(crate) fn done(self) -> StepTurn
         ensures { result ≡ states.ends_value self }
     {
         let cell = Cell {
@@ -106,7 +106,7 @@ impl StepState {
     }
 
     // "Being Stuck is not" a step, and is told at the limit.
-    pub fn stuck(self) -> StepTurn
+    pub(crate) fn stuck(self) -> StepTurn
         ensures { result ≡ states.ends_stuck self }
     {
         StepTurn::Ends(Outcome {
@@ -117,7 +117,7 @@ impl StepState {
     }
 
     // "A halt is itself a step."
-    pub fn halt(self, limit: u64, why: Halt) -> StepTurn
+    pub(crate) fn halt(self, limit: u64, why: Halt) -> StepTurn
         ensures { result ≡ states.ends_halt limit self why }
     {
         if limit <= self.steps {
@@ -128,14 +128,14 @@ impl StepState {
     }
 
     // The limit forbids the next step.
-    pub fn more(self) -> StepTurn
+    pub(crate) fn more(self) -> StepTurn
         ensures { result ≡ states.ends_more self }
     {
         StepTurn::Ends(self.outcome(End::More))
     }
 
     // The run ends like this, after the steps counted.
-    pub fn outcome(self, end: End) -> Outcome
+    pub(crate) fn outcome(self, end: End) -> Outcome
         ensures { result ≡ outcome_of end self.steps self.first }
     {
         Outcome {
