@@ -38,7 +38,7 @@ use Rattle.machine.specs.declared.CodedValue.{CodedValue}
 use Rattle.machine.specs.declared.Focus.{Focus}
 use Rattle.machine.specs.declared.Focus.TheVariants as focus
 use Rattle.machine.specs.declared.State.{State}
-use Rattle.machine.specs.States.{Leaving, Moved, leaving, moved, on_heap, coded_value, state, first_of, stepped, with_value, with_hint, more, contracted, settled}
+use Rattle.machine.specs.States.{Leaving, Moved, leaving, moved, on_heap, coded_value, state, first_of, stepped, focused, with_hint, more, contracted, settled}
 use Rattle.machine.specs.States as states
 use Rattle.machine.specs.Rows.{node, frame_row, frame_at, framed, kept}
 use Rattle.machine.specs.Redexes.{one_yield}
@@ -63,6 +63,10 @@ pub data SimNodes (table : List ℕ) (R : ℕ) : Focus → (height lets : ℕ) (
   at_value : {h l : ℕ} {x : Bool} {ρ : List Cell} {K : List Hole} {c : Cell} {frames bound : List ℕ}
       → Stack table R frames h ρ K l → Env bound ρ → Small c.kind
       → SimNodes table R (focus.Value (held c)) h (length ρ) x frames bound (plugs K (lit c.value c.kind)) l
+
+-- a kind's code is that of a value
+code_told : (κ : Kind) → eqb (packed κ) 0 ≡ false
+code_told κ = ne_eqb (packed κ) 0 (packed_not_zero κ)
 
 less : (n : ℕ) → suc n - 1 ≡ n
 less n = omega arith
@@ -94,7 +98,7 @@ module _ {S : Setting} {T : Terms} {ws structs types : List ℕ} (L : OnTerms S 
       d_halts : {h : Halt} → Does s (leaving (states.halt T.limit s h) (lent H ws)) (halts h)
       d_gives : {m : Leaving} {H' : Heap} {c : Cell} {r : Hint} → (T.limit ≤ s.steps → m ≡ leaving (more s) (lent H ws))
           → (s.steps < T.limit
-          → m ≡ leaving (states.goes (stepped (with_hint (with_value s c.value (packed c.kind)) r.size r.from))) (lent H' ws))
+          → m ≡ leaving (states.goes (stepped (with_hint (focused s (focus.Value (held c))) r.size r.from))) (lent H' ws))
           → HeapNext H H' → HintHolds H' T.low r → Small c.kind → Does s m (gives H' c.value c.kind)
 
     settled_does : {y : Yield} {ws' : List ℕ} {d : Redex} (s : State) → HintHolds H T.low s.hint → GivesAs H ws ws' y d
@@ -109,7 +113,7 @@ module _ {S : Setting} {T : Terms} {ws structs types : List ℕ} (L : OnTerms S 
         {c = c}
         {r = s.hint}
         (λ l. rw (le-leb T.limit s.steps l))
-        (λ l. rw (lt-leb T.limit s.steps l, e))
+        (λ l. rw (lt-leb T.limit s.steps l, code_told c.kind, e))
         n
         (hint_after n k)
         sm
@@ -142,7 +146,7 @@ module _ {S : Setting} {T : Terms} {ws structs types : List ℕ} (L : OnTerms S 
             {c = cell a κ}
             {r = room_hint (size S κ) a}
             (λ h. rw (le-leb T.limit s.steps h))
-            (λ h. rw (lt-leb T.limit s.steps h, z.held))
+            (λ h. rw (lt-leb T.limit s.steps h, code_told κ, z.held))
             z.next
             (hint_as L l z)
             sm
@@ -370,7 +374,7 @@ module _ {S : Setting} {T : Terms} {ws structs types : List ℕ} (L : OnTerms S 
           {lets = length ρ}
           {x = mode_inside (under K)}
           {frames' = frames}
-          (look_node h (length ρ) (mode_inside (under K)) r)
+          (look_node h (length ρ) (mode_inside (under K)) r ∙ rw (code_told κ))
           refl
           (at_value {c = cell n κ} s v k)
           (omega arith)
@@ -384,7 +388,7 @@ module _ {S : Setting} {T : Terms} {ws structs types : List ℕ} (L : OnTerms S 
           {x = mode_inside (under K)}
           {left' = l}
           {frames' = frames}
-          (look_node h (length ρ) (mode_inside (under K)) r ∙ rw (lt-leb (length ρ) k b, a.value_is, a.code_is))
+          (look_node h (length ρ) (mode_inside (under K)) r ∙ rw (lt-leb (length ρ) k b, a.value_is, a.code_is, code_told (get_or ρ k (cell 0 Int)).kind))
           refl
           (at_value {c = get_or ρ k (cell 0 Int)} s v (env_small k v b))
           (omega arith))
