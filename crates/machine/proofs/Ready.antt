@@ -12,6 +12,7 @@ use Rattle.calculus.specs.Steps.{one_redex}
 use Rattle.image.specs.Shape.{SmallOne, small_cast}
 use Rattle.image.specs.Tabled.{one_operation, one_argument, one_kind}
 use Rattle.yields.specs.declared.Terms.{Terms}
+use Rattle.yields.specs.declared.Counts.TheVariants.{Whole}
 use Rattle.yields.proofs.GivesAs.{GivesAs, OnTerms, gives_on, read_as, field_as}
 use Rattle.machine.specs.States.{coded_value}
 use Rattle.machine.specs.Redexes.{one_yield}
@@ -53,5 +54,5 @@ module _ {S : Setting} {T : Terms} {ws structs types : List ℕ} (L : OnTerms S 
   unfolding one_yield
   node_as unchecked c o k = gives_on L H s long c k
   node_as (cast κ) c (small_cast o) k = gives_on L H s long (cell c.value κ) o
-  node_as read c o k = read_as L H s long c.value c.kind k
+  node_as read c o k = read_as L H s long Whole c.value c.kind k
   node_as (field f) c o k = field_as L H s long f c.value c.kind k

@@ -7,11 +7,11 @@ use Rattle.calculus.specs.declared.Halt.TheVariants as halts
 use Rattle.calculus.specs.declared.Act.{Act}
 use Rattle.calculus.specs.declared.Operation.{Operation}
 use Rattle.calculus.specs.declared.Operation.TheVariants as op
-use Rattle.tables.specs.Kinds.{size_at}
 use Rattle.yields.specs.declared.Terms.{Terms}
 use Rattle.yields.specs.declared.Yield.{Yield}
 use Rattle.yields.specs.declared.Yield.TheVariants.{Gives, Halts, Blocked}
 use Rattle.yields.specs.Malloc.{sought_from}
+use Rattle.yields.specs.declared.Counts.TheVariants.{Whole}
 use Rattle.yields.specs.Yields.{act_gives}
 use Rattle.machine.specs.declared.CodedValue.{CodedValue}
 use Rattle.machine.specs.declared.Focus.{Focus}
@@ -21,7 +21,7 @@ use Rattle.machine.specs.declared.State.{State}
 use Rattle.machine.specs.States.{Turn, goes, turned, Leaving, Stacked, halt, contracted, settled, at_height, popped}
 use Rattle.machine.specs.Rows.{node_at, frame_at}
 use Rattle.machine.specs.Redexes.{one_yield}
-use Rattle.machine.specs.Malloc.{room_taken, room_found, room_for}
+use Rattle.machine.specs.Malloc.{size_in, room_taken, room_found, room_for}
 use Rattle.machine.specs.Nodes.{variable_at, first_part, entered, entering}
 use Rattle.machine.specs.Values.{second_part, binding, after_first, after_second, by_parts, resumed_by, handing}
 use Rattle.machine.specs.Turns.{transition, by_focus}
@@ -67,7 +67,7 @@ module _ (structs types : List ℕ) (T : Terms) (ws frames bound : List ℕ) (s 
   unfolding entered
   slow_entered at op.Literal argument kind = omega arith
   slow_entered at op.Variable argument kind = slow_variable bound s argument
-  slow_entered at op.Malloc argument kind = slow_room structs types T ws s kind (size_at structs kind)
+  slow_entered at op.Malloc argument kind = slow_room structs types T ws s kind (size_in structs kind)
   slow_entered at op.Let argument kind = slow_first frames s at op.Let
   slow_entered at op.Unchecked argument kind = slow_first frames s at op.Unchecked
   slow_entered at op.Cast argument kind = slow_first frames s at op.Cast
@@ -101,7 +101,7 @@ module _ (structs : List ℕ) (T : Terms) (ws frames bound : List ℕ) (s : Stat
   slow_resumed (Some d) n inside =
       by_parts_case (λ (m : Leaving). Slow s.steps m.turn) n.operation _ _ _
       (omega arith)
-      (λ a. slow_contracted T.limit (at_height s (s.height - 1) inside) (act_gives T.words ws a v.value v.code d.value d.code).yield)
+      (λ a. slow_contracted T.limit (at_height s (s.height - 1) inside) (act_gives Whole T.words ws a v.value v.code d.value d.code).yield)
       (omega arith)
 
 module _ (nodes structs types : List ℕ) (T : Terms) (ws frames bound : List ℕ) (s : State) where

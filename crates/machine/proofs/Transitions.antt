@@ -2,14 +2,14 @@
 use Rattle.std.proofs.Common.{◌≡◌, ℕ, suc, ◌+◌, ◌-◌, ◌*◌, ◌/◌, ◌<◌, ◌≤◌, Bool, true, false, eqb, List, ◌∷◌, length, get_or, refl, ap, ◌∙◌, add-one, arith, ne_eqb, le-leb, Option, Some, None}
 use borrow.Author.Tests.{lt-leb}
 use Rattle.choice.specs.Choice.{choose}
-use Rattle.cells.specs.Code.{packed, Small}
+use Rattle.cells.specs.Code.{packed, number_in, Small}
 use Rattle.cells.specs.Heap.{Heap, SmallHeap, look, undefined}
 use Rattle.cells.specs.Free.{lowest_in}
 use Rattle.cells.specs.Lent.{lent, put_word}
 use Rattle.cells.specs.declared.Mode.{Mode}
 use Rattle.cells.specs.declared.Mode.TheVariants.{Checked}
 use Rattle.cells.specs.declared.Kind.{Kind}
-use Rattle.cells.specs.declared.Kind.TheVariants.{Int}
+use Rattle.cells.specs.declared.Kind.TheVariants.{Int, Word, Struct, Array}
 use Rattle.cells.specs.declared.Cell.{Cell}
 use Rattle.cells.proofs.Codes.{round_trip, packed_not_zero}
 use Rattle.cells.proofs.View.{length_put}
@@ -25,7 +25,10 @@ use Rattle.calculus.specs.declared.Operation.{Operation}
 use Rattle.calculus.specs.declared.Operation.TheVariants as op
 use Rattle.image.specs.Tabled.{Row, Spans, s_lit, s_var, s_malloc, s_bind, s_one, s_two, one_operation, one_argument, one_kind}
 use Rattle.image.specs.Shape.{Scoped, scoped_var, scoped_bind, scoped_one, scoped_two, SmallExpr, small_lit, small_malloc, small_bind, small_two, height}
+use Rattle.tables.specs.Kinds.{size_at, field_count_at}
+use Rattle.tables.proofs.Coded.{kind_tag, kind_count, tag_kind, count_kind, count_whole}
 use Rattle.tables.proofs.Held.{size_kind}
+use Rattle.yields.specs.declared.Counts.TheVariants.{Whole}
 use Rattle.yields.specs.declared.Hint.{Hint}
 use Rattle.yields.specs.declared.Terms.{Terms}
 use Rattle.yields.specs.declared.Yield.{Yield}
@@ -38,11 +41,11 @@ use Rattle.machine.specs.declared.CodedValue.{CodedValue}
 use Rattle.machine.specs.declared.Focus.{Focus}
 use Rattle.machine.specs.declared.Focus.TheVariants as focus
 use Rattle.machine.specs.declared.State.{State}
-use Rattle.machine.specs.States.{Leaving, Moved, leaving, moved, on_heap, coded_value, state, first_of, stepped, with_value, with_hint, more, contracted, settled}
+use Rattle.machine.specs.States.{Leaving, Moved, leaving, moved, on_heap, coded_value, state, first_of, stepped, focused, with_hint, more, contracted, settled}
 use Rattle.machine.specs.States as states
 use Rattle.machine.specs.Rows.{node, frame_row, frame_at, framed, kept}
 use Rattle.machine.specs.Redexes.{one_yield}
-use Rattle.machine.specs.Malloc.{room_taken, room_found, room_for, room_at}
+use Rattle.machine.specs.Malloc.{size_in, room_taken, room_found, room_for, room_at}
 use Rattle.machine.specs.Nodes.{inside_of, variable_at, first_part, entered}
 use Rattle.machine.specs.Values.{second_part, binding, after_first, after_second, resumed_by, handing}
 use Rattle.machine.specs.Turns.{transition}
@@ -63,6 +66,25 @@ pub data SimNodes (table : List ℕ) (R : ℕ) : Focus → (height lets : ℕ) (
   at_value : {h l : ℕ} {x : Bool} {ρ : List Cell} {K : List Hole} {c : Cell} {frames bound : List ℕ}
       → Stack table R frames h ρ K l → Env bound ρ → Small c.kind
       → SimNodes table R (focus.Value (held c)) h (length ρ) x frames bound (plugs K (lit c.value c.kind)) l
+
+-- a kind's code is that of a value
+code_told : (κ : Kind) → eqb (packed κ) 0 ≡ false
+code_told κ = ne_eqb (packed κ) 0 (packed_not_zero κ)
+
+-- the target of a pointer whose numbers fit covers as many words by its whole count
+size_whole : (structs : List ℕ) {κ : Kind} → Small κ → size_in structs (packed κ) ≡ size_at structs (packed κ)
+unfolding size_in size_at
+size_whole structs {κ} s = rw (tag_kind κ, count_kind s, count_whole s) (go κ (field_count_at structs (number_in (packed κ))))
+  where
+    go : (κ : Kind) (n : ℕ)
+        → choose (eqb (kind_tag κ) 0) (λ _. 0) (λ _. choose (eqb (kind_tag κ) 1) (λ _. 1) λ _.
+        choose (eqb (kind_tag κ) 2) (λ _. n) (λ _. kind_count κ))
+        ≡ choose (eqb (kind_tag κ) 1) (λ _. 1) λ _. choose (eqb (kind_tag κ) 2) (λ _. n) λ _.
+        choose (eqb (kind_tag κ) 3) (λ _. kind_count κ) (λ _. 0)
+    go Int n = refl
+    go (Word m k) n = refl
+    go (Struct m k) n = refl
+    go (Array m c k) n = refl
 
 less : (n : ℕ) → suc n - 1 ≡ n
 less n = omega arith
@@ -94,7 +116,7 @@ module _ {S : Setting} {T : Terms} {ws structs types : List ℕ} (L : OnTerms S 
       d_halts : {h : Halt} → Does s (leaving (states.halt T.limit s h) (lent H ws)) (halts h)
       d_gives : {m : Leaving} {H' : Heap} {c : Cell} {r : Hint} → (T.limit ≤ s.steps → m ≡ leaving (more s) (lent H ws))
           → (s.steps < T.limit
-          → m ≡ leaving (states.goes (stepped (with_hint (with_value s c.value (packed c.kind)) r.size r.from))) (lent H' ws))
+          → m ≡ leaving (states.goes (stepped (with_hint (focused s (focus.Value (held c))) r.size r.from))) (lent H' ws))
           → HeapNext H H' → HintHolds H' T.low r → Small c.kind → Does s m (gives H' c.value c.kind)
 
     settled_does : {y : Yield} {ws' : List ℕ} {d : Redex} (s : State) → HintHolds H T.low s.hint → GivesAs H ws ws' y d
@@ -109,7 +131,7 @@ module _ {S : Setting} {T : Terms} {ws structs types : List ℕ} (L : OnTerms S 
         {c = c}
         {r = s.hint}
         (λ l. rw (le-leb T.limit s.steps l))
-        (λ l. rw (lt-leb T.limit s.steps l, e))
+        (λ l. rw (lt-leb T.limit s.steps l, code_told c.kind, e))
         n
         (hint_after n k)
         sm
@@ -123,7 +145,7 @@ module _ {S : Setting} {T : Terms} {ws structs types : List ℕ} (L : OnTerms S 
         → Does s (room_at structs types T (lent H ws) s (packed κ)) (malloc_redex S H κ)
     unfolding room_for room_taken malloc_redex
     malloc_does s κ k sm =
-        rw (size_kind L.setting sm, found_as L H s.hint (size S κ) hs hl k)
+        rw (size_whole structs sm, size_kind L.setting sm, found_as L H s.hint (size S κ) hs hl k)
         (go (eqb (size S κ) 0) (lowest_in (λ a. undefined (look H a)) (size S κ) S.low S.high) refl)
       where
         go : (b : Bool) (run : Option ℕ) → lowest_in (λ a. undefined (look H a)) (size S κ) S.low S.high ≡ run
@@ -142,7 +164,7 @@ module _ {S : Setting} {T : Terms} {ws structs types : List ℕ} (L : OnTerms S 
             {c = cell a κ}
             {r = room_hint (size S κ) a}
             (λ h. rw (le-leb T.limit s.steps h))
-            (λ h. rw (lt-leb T.limit s.steps h, z.held))
+            (λ h. rw (lt-leb T.limit s.steps h, code_told κ, z.held))
             z.next
             (hint_as L l z)
             sm
@@ -200,7 +222,7 @@ module _ {S : Setting} {T : Terms} {ws structs types : List ℕ} (L : OnTerms S 
       after_act : (j : ℕ) (o : Act) (d : CodedValue)
           → resumed_by (Some d) structs T (lent H ws) frames bound (state (focus.Value v) (suc h) lets x steps first ht) v (node (op.Acts o) 0 0 j) m
           ≡ on_heap frames bound (settled T.limit (state (focus.Value v) h lets m steps first ht) (lent H ws)
-          (act_gives T.words (lent H ws) o v.value v.code d.value d.code))
+          (act_gives Whole T.words (lent H ws) o v.value v.code d.value d.code))
       unfolding after_second
       after_act j o d = rw (less h)
 
@@ -305,7 +327,7 @@ module _ {S : Setting} {T : Terms} {ws structs types : List ℕ} (L : OnTerms S 
           s
           v
           refl
-          (settled_does H hs hl _ hr (act_as L H hs hl o d c kd k))
+          (settled_does H hs hl _ hr (act_as L H hs hl Whole o d c kd k))
           (look_value h (length ρ) x (held c) e r ∙ after_act h (length ρ) x (mode_inside (under K)) (held c) j o (held d))
           (omega arith)
       handed x c (on_body {h} {j = j} {ρ = ρ} {K = K} {c = d} s e r) (one_let v b kd) k =
@@ -370,7 +392,7 @@ module _ {S : Setting} {T : Terms} {ws structs types : List ℕ} (L : OnTerms S 
           {lets = length ρ}
           {x = mode_inside (under K)}
           {frames' = frames}
-          (look_node h (length ρ) (mode_inside (under K)) r)
+          (look_node h (length ρ) (mode_inside (under K)) r ∙ rw (code_told κ))
           refl
           (at_value {c = cell n κ} s v k)
           (omega arith)
@@ -384,7 +406,7 @@ module _ {S : Setting} {T : Terms} {ws structs types : List ℕ} (L : OnTerms S 
           {x = mode_inside (under K)}
           {left' = l}
           {frames' = frames}
-          (look_node h (length ρ) (mode_inside (under K)) r ∙ rw (lt-leb (length ρ) k b, a.value_is, a.code_is))
+          (look_node h (length ρ) (mode_inside (under K)) r ∙ rw (lt-leb (length ρ) k b, a.value_is, a.code_is, code_told (get_or ρ k (cell 0 Int)).kind))
           refl
           (at_value {c = get_or ρ k (cell 0 Int)} s v (env_small k v b))
           (omega arith))

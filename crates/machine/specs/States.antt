@@ -53,8 +53,12 @@ focused s f = record s { focus = f }
 abbrev pub with_node : State → (at : ℕ) → State
 with_node s at = focused s (focus.Node at)
 
+-- a number with the code of its kind; no kind has code 0, which is left to the number of a node
+abbrev pub focus_of : (value code : ℕ) → Focus
+focus_of value code = choose (code == 0) (λ _. focus.Node value) (λ _. focus.Value (coded_value value code))
+
 abbrev pub with_value : State → (value code : ℕ) → State
-with_value s value code = focused s (focus.Value (coded_value value code))
+with_value s value code = focused s (focus_of value code)
 
 abbrev pub at_height : State → (height : ℕ) → Bool → State
 at_height s height inside = record s { height = height; inside = inside }

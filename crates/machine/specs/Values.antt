@@ -13,6 +13,7 @@ use Rattle.yields.specs.declared.Terms.{Terms}
 use Rattle.machine.specs.States.{goes, over, turned, Leaving, Stacked, Moved, leaving, stacked, moved, on_heap, on_stack, beside}
 use Rattle.machine.specs.States.{stuck, done, contracted, settled, step_within, with_node, at_height, popped, with_lets}
 use Rattle.machine.specs.Rows.{node_at, frame_at, kept}
+use Rattle.yields.specs.declared.Counts.TheVariants.{Whole}
 use Rattle.yields.specs.Yields.{act_gives}
 use Rattle.machine.specs.Redexes.{one_yield}
 
@@ -50,7 +51,7 @@ after_first structs T ws frames bound s v n =
 -- it is that of the second part, or of a let's body; d is the first part's
 unfoldable pub after_second : Terms → List ℕ → State → CodedValue → Operation → (d : CodedValue) → Leaving
 after_second T ws s v o d =
-    by_parts o (λ _. leaving (goes (with_lets s (s.lets - 1))) ws) (λ a. settled T.limit s ws (act_gives T.words ws a v.value v.code d.value d.code))
+    by_parts o (λ _. leaving (goes (with_lets s (s.lets - 1))) ws) (λ a. settled T.limit s ws (act_gives Whole T.words ws a v.value v.code d.value d.code))
     (λ _. leaving (stuck s) ws)
 
 -- the node n in the topmost frame goes on with the value v

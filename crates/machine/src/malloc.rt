@@ -1,13 +1,13 @@
 // malloc: whether there is room, and its step.
 ghost use Rattle.std.specs.Prelude.{◌≡◌, ◌^◌, ◌<◌};
-ghost use Rattle.machine.specs.Malloc.{room_taken, room_at};
+ghost use Rattle.machine.specs.Malloc.{size_in, room_taken, room_at};
 ghost use Rattle.machine.specs.States.{leaving};
 
 use crate::{NodeScript, State, Turn};
 use calculus::Halt;
 use cells::lowest_run;
 use std::ops::ControlFlow;
-use tables::size_of;
+use tables::{field_count, number_of, tag_of};
 use yields::{Hint, start, zero};
 
 // Room for the target of a checked pointer: the lowest run of words that is long enough.
@@ -24,6 +24,20 @@ pub fn malloc(heap: &mut [u64], script: &NodeScript, s: State, code: u64) -> Tur
     match lowest_run(heap, size, start(s.hint, size, terms.low), terms.high) {
         Some(address) => take(heap, script, s, code, size, address),
         None => s.halt(terms.limit, Halt::Room),
+    }
+}
+
+// How many words the target of a pointer with this code covers; an array's count is all that stands above its number.
+#[tactic(auto, unfolding(crate::specs::Malloc::size_in))]
+fn size_of(structs: &[u64], code: u64) -> usize
+    ensures { result ≡ size_in structs.now code }
+{
+    let tag = tag_of(code);
+    match tag {
+        0 => 0,
+        1 => 1,
+        2 => field_count(structs, number_of(code)),
+        _ => (code / 2048) as usize,
     }
 }
 

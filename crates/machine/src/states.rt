@@ -11,14 +11,16 @@ use yields::Yield;
 
 // `steps < 2 ^ 63` is no field of the type: a step would have to keep the bound, and only the run, which counts its turns, knows it.
 impl State {
-    // A value is in focus.
+    // A value is in focus; no kind has code 0, which is left to the number of a node.
     pub fn with_value(self, value: u64, code: u64) -> State
         ensures { result ≡ states.with_value self value code }
     {
-        State {
-            focus: Focus::Value(CodedValue { value, code }),
-            ..self
-        }
+        let focus = if code == 0 {
+            Focus::Node(value)
+        } else {
+            Focus::Value(CodedValue { value, code })
+        };
+        State { focus, ..self }
     }
 
     // The number of the first unchecked step, where the next one, which has that number, is counted too.

@@ -36,6 +36,7 @@ use Rattle.stepper.specs.Stack.{pushed, fetched, allotted, applied, joined_row, 
 use Rattle.stepper.specs.Stack.{beside_bound, task_turn}
 use Rattle.stepper.proofs.Listed.{Listed, listed_none, listed_more, listed_put, listed_at, listed_small}
 use Rattle.stepper.proofs.Fitting.{RowFits, fits_push, fits_fetch, fits_take, fits_hold}
+use Rattle.yields.specs.declared.Counts.TheVariants.{Cut}
 use Rattle.yields.proofs.GivesAs.{HeapNext, heap_stays, OnTerms, act_as}
 use Rattle.stepper.proofs.OnePart.{one_as}
 use Rattle.yields.proofs.Zeroed.{HintHolds}
@@ -201,7 +202,7 @@ module _ {S : Setting} {T : Terms} {ws structs types : List ℕ} (L : OnTerms S 
       rw (le-ltb (suc (suc (length st))) 2 (omega arith), two, w.value_is, w.code_is)
       (does_follows st stack
       (settled_does L H (state_of p d.value (packed d.kind) (suc (length st)) (length ρ) b steps first ht) hr
-      (act_as L H hs hl o e d k k'))
+      (act_as L H hs hl Cut o e d k k'))
       l refl i)
 
   hold_follows : {v c : ℕ} {st : List Cell} → TopIs stack v c st → length ρ < room → p < whole_rows rows

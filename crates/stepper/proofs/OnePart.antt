@@ -12,6 +12,7 @@ use Rattle.tables.specs.Rows.{type_kind}
 use Rattle.tables.proofs.Held.{type_kind_lem, type_exact}
 use Rattle.tables.proofs.Operands.{one_task, OneOperands}
 use Rattle.yields.specs.declared.Terms.{Terms}
+use Rattle.yields.specs.declared.Counts.TheVariants.{Cut}
 use Rattle.yields.proofs.GivesAs.{GivesAs, OnTerms, gives_on, gives_coded, field_as, read_as}
 use Rattle.stepper.specs.Nodes.{one_gives}
 
@@ -26,5 +27,5 @@ module _ {S : Setting} {T : Terms} {ws structs types : List ℕ} (L : OnTerms S 
       let q : type_kind types slot ≡ κ = e in
       gives_coded L H s long c.value (type_code_at types slot) κ (sym (type_exact L.setting slot) ∙ ap packed q)
       (rw (sym q ∙ type_kind_lem L.setting slot) (L.setting.small slot))
-  one_as read c slot datum e k = read_as L H s long c.value c.kind k
+  one_as read c slot datum e k = read_as L H s long Cut c.value c.kind k
   one_as (field f) c slot datum e k = let q : datum ≡ f = e in rw q (field_as L H s long f c.value c.kind k)

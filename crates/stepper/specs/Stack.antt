@@ -13,6 +13,7 @@ use Rattle.stepper.specs.declared.StepTurn.{StepTurn}
 use Rattle.stepper.specs.declared.StepTurn.TheVariants.{Goes, Steps}
 use Rattle.stepper.specs.States.{Changed, PlacedOn, Turned, changed, placed_on, turned_to, topped, resized, counting, ends_more, ends_stuck, ends_value}
 use Rattle.stepper.specs.States.{settled_by, settled_on}
+use Rattle.yields.specs.declared.Counts.TheVariants.{Cut}
 use Rattle.yields.specs.Yields.{act_gives}
 use Rattle.stepper.specs.Nodes.{one_gives}
 use Rattle.stepper.specs.Malloc.{room_gives}
@@ -51,7 +52,7 @@ unfoldable pub joined_row : Terms → (ws stack : List ℕ) → StepState → Ac
 joined_row T ws stack s o =
     choose (nat_lt s.height 2) (λ _. changed (ends_stuck s) ws)
     (λ _. settled_on T.limit (below_top s) ws
-    (act_gives T.words ws o s.value s.code (lent_number stack (s.height - 1) 0) (lent_number stack (s.height - 1) 1)))
+    (act_gives Cut T.words ws o s.value s.code (lent_number stack (s.height - 1) 0) (lent_number stack (s.height - 1) 1)))
 
 -- the value on top is bound, a step; the innermost bound value is forgotten; the value on top is the whole expression's
 unfoldable pub bound_next : (limit : ℕ) (stack bound : List ℕ) → StepState → Changed

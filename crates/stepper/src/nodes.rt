@@ -1,5 +1,6 @@
 // What a node with one part gives, and the step of an act on two values.
 ghost use Rattle.std.specs.Prelude.{◌≡◌};
+ghost use Rattle.yields.specs.declared.Counts.TheVariants.{Cut};
 ghost use Rattle.yields.specs.Yields.{store_gives, assign_gives, act_gives};
 ghost use Rattle.stepper.specs.Nodes.{one_gives};
 ghost use Rattle.stepper.specs.States.{changed, settled_on};
@@ -8,7 +9,7 @@ use crate::{RowScript, StepState, StepTurn};
 use calculus::Act;
 use cells::{Cell, store};
 use tables::{Task, type_code};
-use yields::{Terms, Yield, field_address, read, sum};
+use yields::{Counts, Terms, Yield, field_address, read, sum};
 
 // A node with one part, whose value is on top; the slot and the datum are its row's.
 #[tactic(auto, unfolding(crate::specs::Nodes::one_gives))]
@@ -32,7 +33,7 @@ pub fn one(
             value: s.value,
             code: type_code(script.types, slot),
         },
-        Task::Read => read(heap, script.terms.words, s.value, s.code),
+        Task::Read => read(Counts::Cut, heap, script.terms.words, s.value, s.code),
         Task::Field => field_address(script.structs, datum, s.value, s.code),
         _ => Yield::Blocked,
     }
@@ -41,20 +42,20 @@ pub fn one(
 // What is done with two values: that of the first part is told, that of the second is on top.
 #[tactic(auto, using(crate::proofs::Settled::settled_alike))]
 pub fn act(heap: &mut [u64], terms: Terms, s: StepState, o: Act, value: u64, code: u64) -> StepTurn
-    ensures { changed result heap.new ≡ settled_on terms.limit s heap.old (act_gives terms.words heap.old o s.value s.code value code) }
+    ensures { changed result heap.new ≡ settled_on terms.limit s heap.old (act_gives Cut terms.words heap.old o s.value s.code value code) }
 {
     match o {
         Act::Assign => assign(heap, terms, s, value, code),
-        Act::Sum => s.settle(terms.limit, sum(value, code, s.value)),
+        Act::Sum => s.settle(terms.limit, sum(Counts::Cut, value, code, s.value)),
     }
 }
 
 // Assign the value on top at a pointer: where a read gives a value.
 #[tactic(auto, using(crate::proofs::Settled::settled_alike), unfolding(yields::specs::Yields::assign_gives))]
 fn assign(heap: &mut [u64], terms: Terms, s: StepState, value: u64, code: u64) -> StepTurn
-    ensures { changed result heap.new ≡ settled_on terms.limit s heap.old (assign_gives terms.words heap.old s.value s.code value code) }
+    ensures { changed result heap.new ≡ settled_on terms.limit s heap.old (assign_gives Cut terms.words heap.old s.value s.code value code) }
 {
-    match read(heap, terms.words, value, code) {
+    match read(Counts::Cut, heap, terms.words, value, code) {
         Yield::Gives { .. } => write(heap, terms.limit, s, value as usize),
         Yield::Halts(why) => s.halt(terms.limit, why),
         Yield::Blocked => s.stuck(),

@@ -5,7 +5,7 @@ use native.Mathlib.Decide.{dec_le, dec_lt}
 use lib.ListN.{get_or-eq_default}
 use borrow.Author.Tests.{lt-leb}
 use Rattle.choice.specs.Choice.{choose, choose_told, both}
-use Rattle.cells.specs.Code.{packed, mode_of, Small}
+use Rattle.cells.specs.Code.{packed, mode_of, count_in, Small}
 use Rattle.cells.specs.Heap.{Heap, look, update, undefined, SmallWord, small_held, SmallHeap}
 use Rattle.cells.specs.Lent.{lent, word_at, stored}
 use Rattle.cells.specs.declared.Mode.{Mode}
@@ -22,14 +22,17 @@ use Rattle.calculus.specs.declared.Act.{Act}
 use Rattle.calculus.specs.declared.Act.TheVariants.{Assign, Sum}
 use Rattle.calculus.specs.declared.Halt.{Halt}
 use Rattle.calculus.specs.declared.Halt.TheVariants.{Null, Bounds}
-use Rattle.tables.specs.Kinds.{field_count_at, field_type_at, code_checked, word_code, HoldsSetting}
-use Rattle.tables.proofs.Coded.{Coded, coded_int, coded_word, coded_struct, coded_array, coded_kind, checked_kind, array_kind}
-use Rattle.tables.proofs.Coded.{empty_kind, fallen_kind, fallen_small}
+use Rattle.tables.specs.Kinds.{field_count_at, field_type_at, code_checked, word_code, fallen_code, HoldsSetting}
+use Rattle.tables.proofs.Coded.{Coded, coded_int, coded_word, coded_struct, coded_array, coded_kind, count_kind, count_whole}
+use Rattle.tables.proofs.Coded.{checked_kind, array_kind, empty_kind, fallen_kind, fallen_small}
 use Rattle.tables.proofs.Held.{field_code, field_small}
 use Rattle.yields.specs.declared.Terms.{Terms}
+use Rattle.yields.specs.declared.Counts.{Counts}
+use Rattle.yields.specs.declared.Counts.TheVariants.{Cut, Whole}
 use Rattle.yields.specs.declared.Yield.{Yield}
 use Rattle.yields.specs.declared.Yield.TheVariants.{Gives, Halts, Blocked}
-use Rattle.yields.specs.Yields.{holds_gives, behind_words, word_gives, read_gives, struct_gives, field_gives, sum_gives, assign_by, assign_gives, act_gives}
+use Rattle.yields.specs.Yields.{count_by, holds_gives, behind_words, word_gives, read_gives, struct_gives, field_gives, fallen_by, sum_gives, assign_by}
+use Rattle.yields.specs.Yields.{assign_gives, act_gives}
 
 -- ---- what a step makes of a heap: as many words, whose kinds fit their codes, and none undefined that was not
 pub record HeapNext (H H' : Heap) : Type 0 where
@@ -82,6 +85,15 @@ small_cell {c = c} e s = go (rw e at s)
     go : SmallWord (Some c) → Small c.kind
     go (small_held k) = k
 
+-- a kind whose numbers fit has one count, whichever is read off its code
+count_same : (counts : Counts) {κ : Kind} → Small κ → count_by counts (packed κ) ≡ count_in (packed κ)
+count_same Cut k = refl
+count_same Whole k = rw (count_kind k) (count_whole k)
+
+fallen_same : (counts : Counts) {κ : Kind} (k : ℕ) → Small κ → fallen_by counts (packed κ) k ≡ fallen_code (packed κ) k
+unfolding fallen_by fallen_code
+fallen_same counts k s = rw (count_same counts s)
+
 -- the setting's tables in lent numbers, its terms, and room for the heap's words
 pub record OnTerms (S : Setting) (T : Terms) (ws structs types : List ℕ) : Type 0 where
   pub setting : HoldsSetting S structs types
@@ -103,9 +115,10 @@ module _ {S : Setting} {T : Terms} {ws structs types : List ℕ} (L : OnTerms S 
   gives_coded v code κ e k = rw e (gives_on (cell v κ) k)
 
   -- ---- sums and field addresses
-  sum_as : (v : ℕ) (κ : Kind) (k : ℕ) → Small κ → GivesAs H ws (lent H ws) (sum_gives v (packed κ) k) (sum_redex S H v κ k)
+  sum_as : (counts : Counts) (v : ℕ) (κ : Kind) (k : ℕ) → Small κ
+      → GivesAs H ws (lent H ws) (sum_gives counts v (packed κ) k) (sum_redex S H v κ k)
   unfolding sum_gives sum_redex
-  sum_as v κ k sm = rw (array_kind κ, L.width_is, fallen_kind κ k sm) (go (both (checked_array κ) (eqb v 0)))
+  sum_as counts v κ k sm = rw (array_kind κ, L.width_is, fallen_same counts k sm, fallen_kind κ k sm) (go (both (checked_array κ) (eqb v 0)))
     where
       go : (b : Bool)
           → GivesAs H ws (lent H ws)
@@ -168,10 +181,10 @@ module _ {S : Setting} {T : Terms} {ws structs types : List ℕ} (L : OnTerms S 
       (λ (t : behind_words T.words a ≡ true). rw (look_past H a (omega (arith, ltb-true))))
       (λ (f : behind_words T.words a ≡ false). rw (word_lent H ws a s (omega (arith, ltb-false))))
 
-  read_tested : (v : ℕ) (κ : Kind) → Small κ → Tested H v (read_gives (lent H ws) T.words v (packed κ)) (word_then H v κ)
+  read_tested : (counts : Counts) (v : ℕ) (κ : Kind) → Small κ → Tested H v (read_gives counts (lent H ws) T.words v (packed κ)) (word_then H v κ)
   unfolding read_gives word_then
-  read_tested v κ k =
-      rw (checked_kind κ, empty_kind k, held_as v) (go (both (checked_pointer κ) (eqb v 0)) (checked_empty κ) (look H v) refl)
+  read_tested counts v κ k =
+      rw (checked_kind κ, count_same counts k, empty_kind k, held_as v) (go (both (checked_pointer κ) (eqb v 0)) (checked_empty κ) (look H v) refl)
     where
       go : (b b' : Bool) (w : Option Cell) → look H v ≡ w
           → Tested H v
@@ -188,9 +201,9 @@ module _ {S : Setting} {T : Terms} {ws structs types : List ℕ} (L : OnTerms S 
   tested_as t_halts = as_halts refl
   tested_as {v} (t_word {c} e) = gives_on c (small_cell e (s.each v))
 
-  pub read_as : (v : ℕ) (κ : Kind) → Small κ
-      → GivesAs H ws (lent H ws) (read_gives (lent H ws) T.words v (packed κ)) (word_then H v κ (λ d. gives H d.value d.kind))
-  read_as v κ k = tested_as (read_tested v κ k)
+  pub read_as : (counts : Counts) (v : ℕ) (κ : Kind) → Small κ
+      → GivesAs H ws (lent H ws) (read_gives counts (lent H ws) T.words v (packed κ)) (word_then H v κ (λ d. gives H d.value d.kind))
+  read_as counts v κ k = tested_as (read_tested counts v κ k)
 
   -- an assign of the cell c
   assign_as : {v : ℕ} {y : Yield} {then : (Cell → Redex) → Redex} (c : Cell) → Small c.kind → Tested H v y then
@@ -203,10 +216,10 @@ module _ {S : Setting} {T : Terms} {ws structs types : List ℕ} (L : OnTerms S 
       rw (round_trip k) (as_gives {c = c} es (updated v c s k) k)
 
   -- ---- an act on two values: here alone an act is looked at
-  pub act_as : (o : Act) (d c : Cell) → Small d.kind → Small c.kind
-      → GivesAs H ws (act_gives T.words (lent H ws) o c.value (packed c.kind) d.value (packed d.kind)).heap
-      (act_gives T.words (lent H ws) o c.value (packed c.kind) d.value (packed d.kind)).yield
+  pub act_as : (counts : Counts) (o : Act) (d c : Cell) → Small d.kind → Small c.kind
+      → GivesAs H ws (act_gives counts T.words (lent H ws) o c.value (packed c.kind) d.value (packed d.kind)).heap
+      (act_gives counts T.words (lent H ws) o c.value (packed c.kind) d.value (packed d.kind)).yield
       (act_redex S H o d.value d.kind c.value c.kind)
   unfolding assign_gives
-  act_as Assign d c kd kc = assign_as c kc (read_tested d.value d.kind kd)
-  act_as Sum d c kd kc = sum_as d.value d.kind c.value kd
+  act_as counts Assign d c kd kc = assign_as c kc (read_tested counts d.value d.kind kd)
+  act_as counts Sum d c kd kc = sum_as counts d.value d.kind c.value kd

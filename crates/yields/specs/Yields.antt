@@ -1,5 +1,5 @@
 -- What a node gives once its parts are values, by "Steps", on codes of kinds.
-use Rattle.std.specs.Prelude.{ℕ, ◌+◌, ◌%◌, ◌^◌, Bool, List, ◌==◌, nat_le, nat_lt, Option, Some, None}
+use Rattle.std.specs.Prelude.{ℕ, ◌+◌, ◌-◌, ◌*◌, ◌/◌, ◌%◌, ◌^◌, Bool, List, ◌==◌, nat_le, nat_lt, Option, Some, None}
 use Rattle.choice.specs.Choice.{choose, both}
 use Rattle.cells.specs.Code.{number_in, count_in, packed, unpacked}
 use Rattle.cells.specs.Lent.{word_at, stored}
@@ -8,9 +8,16 @@ use Rattle.calculus.specs.Setting.{cell}
 use Rattle.calculus.specs.declared.Act.{Act}
 use Rattle.calculus.specs.declared.Act.TheVariants.{Assign, Sum}
 use Rattle.calculus.specs.declared.Halt.TheVariants.{Null, Bounds}
-use Rattle.tables.specs.Kinds.{field_count_at, field_type_at, code_tag, code_checked, code_checked_array, word_code, fallen_code}
+use Rattle.tables.specs.Kinds.{field_count_at, field_type_at, code_tag, code_checked, code_checked_array, word_code}
+use Rattle.yields.specs.declared.Counts.{Counts}
+use Rattle.yields.specs.declared.Counts.TheVariants.{Cut, Whole}
 use Rattle.yields.specs.declared.Yield.{Yield}
 use Rattle.yields.specs.declared.Yield.TheVariants.{Gives, Halts, Blocked}
+
+-- an array's count in a code: the bits that a kind's count has, or all that stands above its number
+abbrev pub count_by : Counts → (code : ℕ) → ℕ
+count_by Cut code = count_in code
+count_by Whole code = code / 2048
 
 abbrev pub holds_gives : Option Cell → Yield
 holds_gives None = Blocked
@@ -24,10 +31,10 @@ unfoldable pub word_gives : List ℕ → (words a : ℕ) → Yield
 word_gives ws words a = choose (behind_words words a) (λ _. Blocked) (λ _. holds_gives (word_at ws a))
 
 -- a read: "a checked pointer with v = 0 halts with Null; then a checked pointer to an array of 0 halts with Bounds"
-unfoldable pub read_gives : List ℕ → (words v code : ℕ) → Yield
-read_gives ws words v code =
+unfoldable pub read_gives : Counts → List ℕ → (words v code : ℕ) → Yield
+read_gives counts ws words v code =
     choose (both (code_checked code) (v == 0)) (λ _. Halts Null) λ _.
-    choose (both (code_checked_array code) (count_in code == 0)) (λ _. Halts Bounds) (λ _. word_gives ws words v)
+    choose (both (code_checked_array code) (count_by counts code == 0)) (λ _. Halts Bounds) (λ _. word_gives ws words v)
 
 -- a field address, of the struct with a number
 unfoldable pub struct_gives : (structs : List ℕ) (f v code s : ℕ) → Yield
@@ -39,9 +46,12 @@ unfoldable pub field_gives : (structs : List ℕ) (f v code : ℕ) → Yield
 field_gives structs f v code = choose (code_tag code == 2) (λ _. struct_gives structs f v code (number_in code)) (λ _. Blocked)
 
 -- a sum: the count of a checked array pointer falls by the number, not below 0
-unfoldable pub sum_gives : (v code k : ℕ) → Yield
-sum_gives v code k =
-    choose (both (code_checked_array code) (v == 0)) (λ _. Halts Null) (λ _. Gives ((v + k) % 2 ^ 32) (fallen_code code k))
+unfoldable pub fallen_by : Counts → (code k : ℕ) → ℕ
+fallen_by counts code k = choose (code_checked_array code) (λ _. code % 2048 + 2048 * (count_by counts code - k)) (λ _. code)
+
+unfoldable pub sum_gives : Counts → (v code k : ℕ) → Yield
+sum_gives counts v code k =
+    choose (both (code_checked_array code) (v == 0)) (λ _. Halts Null) (λ _. Gives ((v + k) % 2 ^ 32) (fallen_by counts code k))
 
 -- what a node gives, and the heap that its step leaves
 pub record Given : Type 0 where
@@ -61,10 +71,10 @@ assign_by (Gives value code) ws n c a = store_gives ws n c a
 assign_by (Halts h) ws n c a = given_on (Halts h) ws
 assign_by Blocked ws n c a = given_on Blocked ws
 
-unfoldable pub assign_gives : (words : ℕ) → List ℕ → (n c v code : ℕ) → Given
-assign_gives words ws n c v code = assign_by (read_gives ws words v code) ws n c v
+unfoldable pub assign_gives : Counts → (words : ℕ) → List ℕ → (n c v code : ℕ) → Given
+assign_gives counts words ws n c v code = assign_by (read_gives counts ws words v code) ws n c v
 
 -- what is done with two values: v of the first part, with that code of its kind, and n of the second, whose kind has code c
-abbrev pub act_gives : (words : ℕ) → List ℕ → Act → (n c v code : ℕ) → Given
-act_gives words ws Assign n c v code = assign_gives words ws n c v code
-act_gives words ws Sum n c v code = given_on (sum_gives v code n) ws
+abbrev pub act_gives : Counts → (words : ℕ) → List ℕ → Act → (n c v code : ℕ) → Given
+act_gives counts words ws Assign n c v code = assign_gives counts words ws n c v code
+act_gives counts words ws Sum n c v code = given_on (sum_gives counts v code n) ws

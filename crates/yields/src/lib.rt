@@ -30,6 +30,14 @@ pub enum Yield {
     Blocked,
 }
 
+// What counts as an array's count in a code: the bits that a kind's count has, or all that stands above its number. They differ on no
+// kind's code.
+#[derive(Clone, Copy, Debug, PartialEq, Eq)]
+pub enum Counts {
+    Cut,
+    Whole,
+}
+
 mod malloc;
 mod yields;
 

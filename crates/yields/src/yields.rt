@@ -1,24 +1,23 @@
 // Reads, sums and addresses of fields.
-ghost use Rattle.std.specs.Prelude.{◌≡◌, ◌+◌, ◌%◌, ◌^◌};
-ghost use Rattle.yields.specs.Yields.{read_gives, word_gives, sum_gives, field_gives};
+ghost use Rattle.std.specs.Prelude.{◌≡◌, ◌+◌, ◌/◌, ◌%◌, ◌^◌, ◌≤◌};
+ghost use Rattle.yields.specs.Yields.{count_by, read_gives, word_gives, fallen_by, sum_gives, field_gives};
 
-use crate::Yield;
+use crate::{Counts, Yield};
 use calculus::Halt;
 use cells::cell_at;
 use tables::{
-    count_of, fallen_code, field_count, field_type, is_checked, is_checked_array, number_of,
-    tag_of, word_code,
+    count_of, field_count, field_type, is_checked, is_checked_array, number_of, tag_of, word_code,
 };
 
 // Read at a pointer, in a heap of so many words.
 #[tactic(auto, unfolding(crate::specs::Yields::read_gives))]
-pub fn read(heap: &[u64], words: usize, value: u64, code: u64) -> Yield
-    ensures { result ≡ read_gives heap.now words value code }
+pub fn read(counts: Counts, heap: &[u64], words: usize, value: u64, code: u64) -> Yield
+    ensures { result ≡ read_gives counts heap.now words value code }
 {
     if is_checked(code) && value == 0 {
         return Yield::Halts(Halt::Null);
     }
-    if is_checked_array(code) && count_of(code) == 0 {
+    if is_checked_array(code) && array_count(counts, code) == 0 {
         return Yield::Halts(Halt::Bounds);
     }
     held(heap, words, value as usize)
@@ -43,15 +42,37 @@ fn held(heap: &[u64], words: usize, address: usize) -> Yield
 
 // The sum of a value and a number: the count of a checked array pointer falls by the number, not below 0.
 #[tactic(auto, unfolding(crate::specs::Yields::sum_gives))]
-pub fn sum(value: u64, code: u64, k: u64) -> Yield
-    ensures { result ≡ sum_gives value code k }
+pub fn sum(counts: Counts, value: u64, code: u64, k: u64) -> Yield
+    ensures { result ≡ sum_gives counts value code k }
 {
     if is_checked_array(code) && value == 0 {
         return Yield::Halts(Halt::Null);
     }
     Yield::Gives {
         value: added(value, k),
-        code: fallen_code(code, k),
+        code: fallen(counts, code, k),
+    }
+}
+
+// The code after a sum.
+#[tactic(auto, unfolding(crate::specs::Yields::fallen_by))]
+fn fallen(counts: Counts, code: u64, k: u64) -> u64
+    ensures { result ≡ fallen_by counts code k }
+{
+    if is_checked_array(code) {
+        code % 2048 + 2048 * array_count(counts, code).saturating_sub(k)
+    } else {
+        code
+    }
+}
+
+// An array's count.
+fn array_count(counts: Counts, code: u64) -> u64
+    ensures { (result ≡ count_by counts code) × (result ≤ code / 2048) }
+{
+    match counts {
+        Counts::Cut => count_of(code) as u64,
+        Counts::Whole => code / 2048,
     }
 }
 
