@@ -12,7 +12,7 @@ use Rattle.calculus.specs.Steps.{one_redex}
 use Rattle.image.specs.Shape.{SmallOne, small_cast}
 use Rattle.image.specs.Tabled.{one_operation, one_argument, one_kind}
 use Rattle.yields.specs.declared.Terms.{Terms}
-use Rattle.yields.specs.declared.Counts.TheVariants.{Whole}
+use Rattle.yields.specs.declared.ArrayCounts.TheVariants.{Whole}
 use Rattle.yields.proofs.GivesAs.{GivesAs, OnTerms, gives_on, read_as, field_as}
 use Rattle.machine.specs.States.{coded_value}
 use Rattle.machine.specs.Redexes.{one_yield}

@@ -28,7 +28,7 @@ use Rattle.image.specs.Shape.{Scoped, scoped_var, scoped_bind, scoped_one, scope
 use Rattle.tables.specs.Kinds.{size_at, field_count_at}
 use Rattle.tables.proofs.Coded.{kind_tag, kind_count, tag_kind, count_kind, count_whole}
 use Rattle.tables.proofs.Held.{size_kind}
-use Rattle.yields.specs.declared.Counts.TheVariants.{Whole}
+use Rattle.yields.specs.declared.ArrayCounts.TheVariants.{Whole}
 use Rattle.yields.specs.declared.Hint.{Hint}
 use Rattle.yields.specs.declared.Terms.{Terms}
 use Rattle.yields.specs.declared.Yield.{Yield}

@@ -2,7 +2,7 @@
 use Rattle.std.specs.Prelude.{ℕ, List}
 use Rattle.calculus.specs.declared.Operation.{Operation}
 use Rattle.calculus.specs.declared.Operation.TheVariants as op
-use Rattle.yields.specs.declared.Counts.TheVariants.{Whole}
+use Rattle.yields.specs.declared.ArrayCounts.TheVariants.{Whole}
 use Rattle.yields.specs.declared.Yield.{Yield}
 use Rattle.yields.specs.declared.Yield.TheVariants.{Gives, Blocked}
 use Rattle.yields.specs.Yields.{read_gives, field_gives}

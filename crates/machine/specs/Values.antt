@@ -13,7 +13,7 @@ use Rattle.yields.specs.declared.Terms.{Terms}
 use Rattle.machine.specs.States.{goes, over, turned, Leaving, Stacked, Moved, leaving, stacked, moved, on_heap, on_stack, beside}
 use Rattle.machine.specs.States.{stuck, done, contracted, settled, step_within, with_node, at_height, popped, with_lets}
 use Rattle.machine.specs.Rows.{node_at, frame_at, kept}
-use Rattle.yields.specs.declared.Counts.TheVariants.{Whole}
+use Rattle.yields.specs.declared.ArrayCounts.TheVariants.{Whole}
 use Rattle.yields.specs.Yields.{act_gives}
 use Rattle.machine.specs.Redexes.{one_yield}
 

@@ -1,6 +1,6 @@
 // What a node gives once its parts are values, and the step of an act on two values, by "Steps".
 ghost use Rattle.std.specs.Prelude.{◌≡◌, ◌^◌, ◌<◌};
-ghost use Rattle.yields.specs.declared.Counts.TheVariants.{Whole};
+ghost use Rattle.yields.specs.declared.ArrayCounts.TheVariants.{Whole};
 ghost use Rattle.yields.specs.Yields.{act_gives, assign_gives, store_gives};
 ghost use Rattle.machine.specs.Redexes.{one_yield};
 ghost use Rattle.machine.specs.States.{leaving, settled};
@@ -9,7 +9,7 @@ use crate::{CodedValue, Node, State, Turn};
 use calculus::{Act, Operation};
 use cells::store;
 use std::ops::ControlFlow;
-use yields::{Counts, Terms, Yield, field_address, read, sum};
+use yields::{ArrayCounts, Terms, Yield, field_address, read, sum};
 
 // A node with one part, whose value is told.
 #[tactic(auto, using(crate::proofs::Arms::not_single), unfolding(crate::specs::Redexes::one_yield))]
@@ -25,7 +25,7 @@ pub fn one(heap: &[u64], structs: &[u64], words: usize, v: CodedValue, node: Nod
             value: v.value,
             code: node.kind,
         },
-        Operation::Read => read(Counts::Whole, heap, words, v.value, v.code),
+        Operation::Read => read(ArrayCounts::Whole, heap, words, v.value, v.code),
         Operation::Field => field_address(structs, node.argument, v.value, v.code),
         _ => Yield::Blocked,
     }
@@ -49,7 +49,7 @@ pub fn act(
         Act::Assign => assign(heap, terms, s, v, first),
         Act::Sum => s.contracted(
             terms.limit,
-            sum(Counts::Whole, first.value, first.code, v.value),
+            sum(ArrayCounts::Whole, first.value, first.code, v.value),
         ),
     }
 }
@@ -61,7 +61,7 @@ fn assign(heap: &mut [u64], terms: Terms, s: State, v: CodedValue, to: CodedValu
     ensures { leaving result heap.new
         ≡ settled terms.limit s heap.old (assign_gives Whole terms.words heap.old v.value v.code to.value to.code) }
 {
-    match read(Counts::Whole, heap, terms.words, to.value, to.code) {
+    match read(ArrayCounts::Whole, heap, terms.words, to.value, to.code) {
         Yield::Gives { .. } => write(heap, terms.limit, s, v, to.value as usize),
         Yield::Halts(why) => s.halt(terms.limit, why),
         Yield::Blocked => s.stuck(),

@@ -12,7 +12,7 @@ use yields::Yield;
 // `steps < 2 ^ 63` is no field of the type: a step would have to keep the bound, and only the run, which counts its turns, knows it.
 impl State {
     // A value is in focus; no kind has code 0, which is left to the number of a node.
-    pub fn with_value(self, value: u64, code: u64) -> State
+    pub(crate) fn with_value(self, value: u64, code: u64) -> State
         ensures { result ≡ states.with_value self value code }
     {
         let focus = if code == 0 {
@@ -35,7 +35,7 @@ impl State {
     }
 
     // A step, or More where the limit forbids it.
-    pub fn step_within(self, limit: u64) -> Turn
+    pub(crate) fn step_within(self, limit: u64) -> Turn
         ensures { result ≡ states.step_within limit self }
     {
         if limit <= self.steps {
@@ -50,7 +50,7 @@ impl State {
     }
 
     // What a node gives is in focus, a step later.
-    pub fn contracted(self, limit: u64, given: Yield) -> Turn
+    pub(crate) fn contracted(self, limit: u64, given: Yield) -> Turn
         requires { self.steps < 2 ^ 63 }
         ensures { result ≡ states.contracted limit self given }
     {
@@ -62,14 +62,14 @@ impl State {
     }
 
     // The whole expression is this value.
-    pub fn done(self, v: CodedValue) -> Turn
+    pub(crate) fn done(self, v: CodedValue) -> Turn
         ensures { result ≡ states.done self v }
     {
         ControlFlow::Break(self.outcome(End::Value(v.into())))
     }
 
     // "Being Stuck is not" a step, and is told at the limit.
-    pub fn stuck(self) -> Turn
+    pub(crate) fn stuck(self) -> Turn
         requires { self.steps < 2 ^ 63 }
         ensures { result ≡ states.stuck self }
     {
@@ -81,7 +81,7 @@ impl State {
     }
 
     // "A halt is itself a step."
-    pub fn halt(self, limit: u64, why: Halt) -> Turn
+    pub(crate) fn halt(self, limit: u64, why: Halt) -> Turn
         ensures { result ≡ states.halt limit self why }
     {
         let taken = self.step_within(limit)?;
@@ -89,7 +89,7 @@ impl State {
     }
 
     // The run ends so, with the steps counted.
-    pub fn outcome(self, end: End) -> Outcome
+    pub(crate) fn outcome(self, end: End) -> Outcome
         ensures { result ≡ outcome_of end self.steps self.first }
     {
         Outcome {

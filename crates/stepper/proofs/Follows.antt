@@ -36,7 +36,7 @@ use Rattle.stepper.specs.Stack.{pushed, fetched, allotted, applied, joined_row, 
 use Rattle.stepper.specs.Stack.{beside_bound, task_turn}
 use Rattle.stepper.proofs.Listed.{Listed, listed_none, listed_more, listed_put, listed_at, listed_small}
 use Rattle.stepper.proofs.Fitting.{RowFits, fits_push, fits_fetch, fits_take, fits_hold}
-use Rattle.yields.specs.declared.Counts.TheVariants.{Cut}
+use Rattle.yields.specs.declared.ArrayCounts.TheVariants.{Cut}
 use Rattle.yields.proofs.GivesAs.{HeapNext, heap_stays, OnTerms, act_as}
 use Rattle.stepper.proofs.OnePart.{one_as}
 use Rattle.yields.proofs.Zeroed.{HintHolds}

@@ -19,6 +19,7 @@ use Rattle.yields.specs.declared.Yield.{Yield}
 use Rattle.yields.specs.declared.Yield.TheVariants.{Gives, Halts, Blocked}
 use Rattle.yields.specs.Malloc.{one_more, sought_from}
 use Rattle.yields.specs.Yields.{act_gives}
+use Rattle.yields.specs.declared.ArrayCounts.TheVariants.{Cut}
 use Rattle.stepper.specs.declared.StepState.{StepState}
 use Rattle.stepper.specs.declared.StepTurn.{StepTurn}
 use Rattle.stepper.specs.declared.StepTurn.TheVariants.{Goes, Steps, Ends}
@@ -115,7 +116,7 @@ module _ (structs types : List ℕ) (T : Terms) (ws stack bound : List ℕ) (s :
       by (nat_lt s.height 2) (λ e. rw e by_end)
       (λ e. rw e
       (settles T.limit (below_top s)
-      (act_gives T.words ws o s.value s.code (lent_number stack (s.height - 1) 0) (lent_number stack (s.height - 1) 1)).yield))
+      (act_gives Cut T.words ws o s.value s.code (lent_number stack (s.height - 1) 0) (lent_number stack (s.height - 1) 1)).yield))
 
   on_task : (t : Task) (slot datum : ℕ) → Onward s.row (task_turn structs types T ws stack bound s t slot datum).turn
   unfolding task_turn

@@ -12,7 +12,7 @@ use Rattle.tables.specs.Rows.{type_kind}
 use Rattle.tables.proofs.Held.{type_kind_lem, type_exact}
 use Rattle.tables.proofs.Operands.{one_task, OneOperands}
 use Rattle.yields.specs.declared.Terms.{Terms}
-use Rattle.yields.specs.declared.Counts.TheVariants.{Cut}
+use Rattle.yields.specs.declared.ArrayCounts.TheVariants.{Cut}
 use Rattle.yields.proofs.GivesAs.{GivesAs, OnTerms, gives_on, gives_coded, field_as, read_as}
 use Rattle.stepper.specs.Nodes.{one_gives}
 

@@ -3,7 +3,7 @@ use Rattle.std.specs.Prelude.{ℕ, List}
 use Rattle.tables.specs.Kinds.{type_code_at}
 use Rattle.tables.specs.declared.Task.{Task}
 use Rattle.tables.specs.declared.Task.TheVariants as task
-use Rattle.yields.specs.declared.Counts.TheVariants.{Cut}
+use Rattle.yields.specs.declared.ArrayCounts.TheVariants.{Cut}
 use Rattle.yields.specs.declared.Yield.{Yield}
 use Rattle.yields.specs.declared.Yield.TheVariants.{Gives, Blocked}
 use Rattle.yields.specs.Yields.{read_gives, field_gives}

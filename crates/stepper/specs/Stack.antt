@@ -13,7 +13,7 @@ use Rattle.stepper.specs.declared.StepTurn.{StepTurn}
 use Rattle.stepper.specs.declared.StepTurn.TheVariants.{Goes, Steps}
 use Rattle.stepper.specs.States.{Changed, PlacedOn, Turned, changed, placed_on, turned_to, topped, resized, counting, ends_more, ends_stuck, ends_value}
 use Rattle.stepper.specs.States.{settled_by, settled_on}
-use Rattle.yields.specs.declared.Counts.TheVariants.{Cut}
+use Rattle.yields.specs.declared.ArrayCounts.TheVariants.{Cut}
 use Rattle.yields.specs.Yields.{act_gives}
 use Rattle.stepper.specs.Nodes.{one_gives}
 use Rattle.stepper.specs.Malloc.{room_gives}

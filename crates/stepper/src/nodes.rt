@@ -1,6 +1,6 @@
 // What a node with one part gives, and the step of an act on two values.
 ghost use Rattle.std.specs.Prelude.{◌≡◌};
-ghost use Rattle.yields.specs.declared.Counts.TheVariants.{Cut};
+ghost use Rattle.yields.specs.declared.ArrayCounts.TheVariants.{Cut};
 ghost use Rattle.yields.specs.Yields.{store_gives, assign_gives, act_gives};
 ghost use Rattle.stepper.specs.Nodes.{one_gives};
 ghost use Rattle.stepper.specs.States.{changed, settled_on};
@@ -9,7 +9,7 @@ use crate::{RowScript, StepState, StepTurn};
 use calculus::Act;
 use cells::{Cell, store};
 use tables::{Task, type_code};
-use yields::{Counts, Terms, Yield, field_address, read, sum};
+use yields::{ArrayCounts, Terms, Yield, field_address, read, sum};
 
 // A node with one part, whose value is on top; the slot and the datum are its row's.
 #[tactic(auto, unfolding(crate::specs::Nodes::one_gives))]
@@ -33,7 +33,7 @@ pub fn one(
             value: s.value,
             code: type_code(script.types, slot),
         },
-        Task::Read => read(Counts::Cut, heap, script.terms.words, s.value, s.code),
+        Task::Read => read(ArrayCounts::Cut, heap, script.terms.words, s.value, s.code),
         Task::Field => field_address(script.structs, datum, s.value, s.code),
         _ => Yield::Blocked,
     }
@@ -46,7 +46,7 @@ pub fn act(heap: &mut [u64], terms: Terms, s: StepState, o: Act, value: u64, cod
 {
     match o {
         Act::Assign => assign(heap, terms, s, value, code),
-        Act::Sum => s.settle(terms.limit, sum(Counts::Cut, value, code, s.value)),
+        Act::Sum => s.settle(terms.limit, sum(ArrayCounts::Cut, value, code, s.value)),
     }
 }
 
@@ -55,7 +55,7 @@ pub fn act(heap: &mut [u64], terms: Terms, s: StepState, o: Act, value: u64, cod
 fn assign(heap: &mut [u64], terms: Terms, s: StepState, value: u64, code: u64) -> StepTurn
     ensures { changed result heap.new ≡ settled_on terms.limit s heap.old (assign_gives Cut terms.words heap.old s.value s.code value code) }
 {
-    match read(Counts::Cut, heap, terms.words, value, code) {
+    match read(ArrayCounts::Cut, heap, terms.words, value, code) {
         Yield::Gives { .. } => write(heap, terms.limit, s, value as usize),
         Yield::Halts(why) => s.halt(terms.limit, why),
         Yield::Blocked => s.stuck(),

@@ -27,8 +27,8 @@ use Rattle.tables.proofs.Coded.{Coded, coded_int, coded_word, coded_struct, code
 use Rattle.tables.proofs.Coded.{checked_kind, array_kind, empty_kind, fallen_kind, fallen_small}
 use Rattle.tables.proofs.Held.{field_code, field_small}
 use Rattle.yields.specs.declared.Terms.{Terms}
-use Rattle.yields.specs.declared.Counts.{Counts}
-use Rattle.yields.specs.declared.Counts.TheVariants.{Cut, Whole}
+use Rattle.yields.specs.declared.ArrayCounts.{ArrayCounts}
+use Rattle.yields.specs.declared.ArrayCounts.TheVariants.{Cut, Whole}
 use Rattle.yields.specs.declared.Yield.{Yield}
 use Rattle.yields.specs.declared.Yield.TheVariants.{Gives, Halts, Blocked}
 use Rattle.yields.specs.Yields.{count_by, holds_gives, behind_words, word_gives, read_gives, struct_gives, field_gives, fallen_by, sum_gives, assign_by}
@@ -86,11 +86,11 @@ small_cell {c = c} e s = go (rw e at s)
     go (small_held k) = k
 
 -- a kind whose numbers fit has one count, whichever is read off its code
-count_same : (counts : Counts) {κ : Kind} → Small κ → count_by counts (packed κ) ≡ count_in (packed κ)
+count_same : (counts : ArrayCounts) {κ : Kind} → Small κ → count_by counts (packed κ) ≡ count_in (packed κ)
 count_same Cut k = refl
 count_same Whole k = rw (count_kind k) (count_whole k)
 
-fallen_same : (counts : Counts) {κ : Kind} (k : ℕ) → Small κ → fallen_by counts (packed κ) k ≡ fallen_code (packed κ) k
+fallen_same : (counts : ArrayCounts) {κ : Kind} (k : ℕ) → Small κ → fallen_by counts (packed κ) k ≡ fallen_code (packed κ) k
 unfolding fallen_by fallen_code
 fallen_same counts k s = rw (count_same counts s)
 
@@ -115,7 +115,7 @@ module _ {S : Setting} {T : Terms} {ws structs types : List ℕ} (L : OnTerms S 
   gives_coded v code κ e k = rw e (gives_on (cell v κ) k)
 
   -- ---- sums and field addresses
-  sum_as : (counts : Counts) (v : ℕ) (κ : Kind) (k : ℕ) → Small κ
+  sum_as : (counts : ArrayCounts) (v : ℕ) (κ : Kind) (k : ℕ) → Small κ
       → GivesAs H ws (lent H ws) (sum_gives counts v (packed κ) k) (sum_redex S H v κ k)
   unfolding sum_gives sum_redex
   sum_as counts v κ k sm = rw (array_kind κ, L.width_is, fallen_same counts k sm, fallen_kind κ k sm) (go (both (checked_array κ) (eqb v 0)))
@@ -181,7 +181,7 @@ module _ {S : Setting} {T : Terms} {ws structs types : List ℕ} (L : OnTerms S 
       (λ (t : behind_words T.words a ≡ true). rw (look_past H a (omega (arith, ltb-true))))
       (λ (f : behind_words T.words a ≡ false). rw (word_lent H ws a s (omega (arith, ltb-false))))
 
-  read_tested : (counts : Counts) (v : ℕ) (κ : Kind) → Small κ → Tested H v (read_gives counts (lent H ws) T.words v (packed κ)) (word_then H v κ)
+  read_tested : (counts : ArrayCounts) (v : ℕ) (κ : Kind) → Small κ → Tested H v (read_gives counts (lent H ws) T.words v (packed κ)) (word_then H v κ)
   unfolding read_gives word_then
   read_tested counts v κ k =
       rw (checked_kind κ, count_same counts k, empty_kind k, held_as v) (go (both (checked_pointer κ) (eqb v 0)) (checked_empty κ) (look H v) refl)
@@ -201,7 +201,7 @@ module _ {S : Setting} {T : Terms} {ws structs types : List ℕ} (L : OnTerms S 
   tested_as t_halts = as_halts refl
   tested_as {v} (t_word {c} e) = gives_on c (small_cell e (s.each v))
 
-  pub read_as : (counts : Counts) (v : ℕ) (κ : Kind) → Small κ
+  pub read_as : (counts : ArrayCounts) (v : ℕ) (κ : Kind) → Small κ
       → GivesAs H ws (lent H ws) (read_gives counts (lent H ws) T.words v (packed κ)) (word_then H v κ (λ d. gives H d.value d.kind))
   read_as counts v κ k = tested_as (read_tested counts v κ k)
 
@@ -216,7 +216,7 @@ module _ {S : Setting} {T : Terms} {ws structs types : List ℕ} (L : OnTerms S 
       rw (round_trip k) (as_gives {c = c} es (updated v c s k) k)
 
   -- ---- an act on two values: here alone an act is looked at
-  pub act_as : (counts : Counts) (o : Act) (d c : Cell) → Small d.kind → Small c.kind
+  pub act_as : (counts : ArrayCounts) (o : Act) (d c : Cell) → Small d.kind → Small c.kind
       → GivesAs H ws (act_gives counts T.words (lent H ws) o c.value (packed c.kind) d.value (packed d.kind)).heap
       (act_gives counts T.words (lent H ws) o c.value (packed c.kind) d.value (packed d.kind)).yield
       (act_redex S H o d.value d.kind c.value c.kind)

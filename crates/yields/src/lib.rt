@@ -33,7 +33,7 @@ pub enum Yield {
 // What counts as an array's count in a code: the bits that a kind's count has, or all that stands above its number. They differ on no
 // kind's code.
 #[derive(Clone, Copy, Debug, PartialEq, Eq)]
-pub enum Counts {
+pub enum ArrayCounts {
     Cut,
     Whole,
 }

@@ -2,7 +2,7 @@
 ghost use Rattle.std.specs.Prelude.{◌≡◌, ◌+◌, ◌/◌, ◌%◌, ◌^◌, ◌≤◌};
 ghost use Rattle.yields.specs.Yields.{count_by, read_gives, word_gives, fallen_by, sum_gives, field_gives};
 
-use crate::{Counts, Yield};
+use crate::{ArrayCounts, Yield};
 use calculus::Halt;
 use cells::cell_at;
 use tables::{
@@ -11,7 +11,7 @@ use tables::{
 
 // Read at a pointer, in a heap of so many words.
 #[tactic(auto, unfolding(crate::specs::Yields::read_gives))]
-pub fn read(counts: Counts, heap: &[u64], words: usize, value: u64, code: u64) -> Yield
+pub fn read(counts: ArrayCounts, heap: &[u64], words: usize, value: u64, code: u64) -> Yield
     ensures { result ≡ read_gives counts heap.now words value code }
 {
     if is_checked(code) && value == 0 {
@@ -42,7 +42,7 @@ fn held(heap: &[u64], words: usize, address: usize) -> Yield
 
 // The sum of a value and a number: the count of a checked array pointer falls by the number, not below 0.
 #[tactic(auto, unfolding(crate::specs::Yields::sum_gives))]
-pub fn sum(counts: Counts, value: u64, code: u64, k: u64) -> Yield
+pub fn sum(counts: ArrayCounts, value: u64, code: u64, k: u64) -> Yield
     ensures { result ≡ sum_gives counts value code k }
 {
     if is_checked_array(code) && value == 0 {
@@ -56,7 +56,7 @@ pub fn sum(counts: Counts, value: u64, code: u64, k: u64) -> Yield
 
 // The code after a sum.
 #[tactic(auto, unfolding(crate::specs::Yields::fallen_by))]
-fn fallen(counts: Counts, code: u64, k: u64) -> u64
+fn fallen(counts: ArrayCounts, code: u64, k: u64) -> u64
     ensures { result ≡ fallen_by counts code k }
 {
     if is_checked_array(code) {
@@ -67,12 +67,12 @@ fn fallen(counts: Counts, code: u64, k: u64) -> u64
 }
 
 // An array's count.
-fn array_count(counts: Counts, code: u64) -> u64
+fn array_count(counts: ArrayCounts, code: u64) -> u64
     ensures { (result ≡ count_by counts code) × (result ≤ code / 2048) }
 {
     match counts {
-        Counts::Cut => count_of(code) as u64,
-        Counts::Whole => code / 2048,
+        ArrayCounts::Cut => count_of(code) as u64,
+        ArrayCounts::Whole => code / 2048,
     }
 }
 
