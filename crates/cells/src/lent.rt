@@ -76,19 +76,24 @@ pub fn clear(heap: &mut [u64], words: usize)
     heap[..end].fill(0);
 }
 
-// The lowest run of k undefined words within low to high and within the heap. One pass: `run` counts the undefined words just
-// before `a`, and a defined word begins the count anew.
+// The lowest run of k undefined words within low to high and within the heap. One pass: `run` counts the undefined words up to `a`, and a
+// defined word begins the count anew. The count is tested where it grows alone, so that the processor need not wait for it at a defined
+// word; and never inlined, so that the loop has all registers.
+#[inline(never)]
 pub fn lowest_run(heap: &[u64], k: usize, low: usize, high: usize) -> Option<usize>
     ensures { result ≡ lowest_run heap.now k low high }
 {
     let last = high.min(heap.len() / 2);
+    if k == 0 {
+        return if low < last + 2 { Some(low) } else { None };
+    }
     let mut run = 0;
-    for a in low..last + 2 {
-        if run == k {
-            return Some(a - k);
-        }
+    for a in low..last + 1 {
         if is_undefined(heap, a) {
             run += 1;
+            if run == k {
+                return Some(a + 1 - k);
+            }
         } else {
             run = 0;
         }
