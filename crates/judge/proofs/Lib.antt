@@ -1,9 +1,11 @@
 -- What callers may cite of the judge.
 pub mod Lists
+pub mod Arms
 pub mod Room
 pub mod Turns
 pub mod HeldTables
 pub mod AddressLaws
+pub mod Shapes
 pub mod Spans
 pub mod Entries
 pub mod MarkLaws

@@ -4,10 +4,11 @@ use Rattle.std.specs.Prelude.{Ok, Err}
 use mathlib.Core.Path.{◌≡◌, refl, sym}
 use mathlib.Core.Bool.{Bool, true, false, not}
 use mathlib.Core.List.{List}
-use Prim.Native.Nat.{ℕ, zero, suc, ◌+◌, ◌-◌, ◌<◌}
+use Prim.Native.Nat.{ℕ, zero, suc, ◌+◌, ◌-◌, ◌<◌, ◌≤◌}
 use native.Mathlib.Omega.{arith}
 use lib.ListN.{length}
 use borrow.Author.Tests.{ne_eqb}
+use Rattle.choice.specs.Choice.{choose_case}
 use Rattle.cells.specs.declared.Mode.{Mode}
 use Rattle.calculus.specs.Operations.{operation_of}
 use Rattle.calculus.specs.declared.Act.{Act}
@@ -44,18 +45,21 @@ access_mode (op.Acts a) mode h = refl
 access_mode op.Field mode h = refl
 access_mode op.Unknown mode h = refl
 
+pub lets_most : (o : Operation) (lets : ℕ) → inner_lets o lets ≤ lets + 1
+lets_most o lets = choose_case (λ n. n ≤ lets + 1) (is_let o) (λ _. lets + 1) (λ _. lets) (omega arith) (omega arith)
+
 -- what acts on two wholes has two parts, both in the mode and inside the lets around it
-record Wholes (o : Operation) : Type 0 where
-  two : parts_of o ≡ 2
-  no_access : is_access o ≡ false
-  same_mode : (mode : Mode) → inner_mode o mode ≡ mode
-  no_let : is_let o ≡ false
+pub record Wholes (o : Operation) : Type 0 where
+  pub two : parts_of o ≡ 2
+  pub no_access : is_access o ≡ false
+  pub same_mode : (mode : Mode) → inner_mode o mode ≡ mode
+  pub no_let : is_let o ≡ false
 
 not_true : (t : Bool) → not t ≡ true → t ≡ false
 not_true true h = absurd (as_true h)
 not_true false h = refl
 
-wholes : (o : Operation) → on_wholes o ≡ true → Wholes o
+pub wholes : (o : Operation) → on_wholes o ≡ true → Wholes o
 wholes op.Literal h = absurd (as_true h)
 wholes op.Variable h = absurd (as_true h)
 wholes op.Let h = absurd (as_true h)

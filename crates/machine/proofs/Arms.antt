@@ -66,3 +66,17 @@ not_pair op.Read binds acts other l n = refl
 not_pair (op.Acts a) binds acts other l n = absurd (n a refl)
 not_pair op.Field binds acts other l n = refl
 not_pair op.Unknown binds acts other l n = refl
+
+-- what holds of each side holds of the choice by parts
+pub parts_case : {A : Type 0} (P : A → Type 0) (o : Operation) (binds : Unit {0} → A) (acts : Act → A) (other : Unit {0} → A)
+    → P (binds tt) → ((a : Act) → P (acts a)) → P (other tt) → P (by_parts o binds acts other)
+parts_case P op.Literal binds acts other b a' r = r
+parts_case P op.Variable binds acts other b a' r = r
+parts_case P op.Let binds acts other b a' r = b
+parts_case P op.Malloc binds acts other b a' r = r
+parts_case P op.Unchecked binds acts other b a' r = r
+parts_case P op.Cast binds acts other b a' r = r
+parts_case P op.Read binds acts other b a' r = r
+parts_case P (op.Acts a) binds acts other b a' r = a' a
+parts_case P op.Field binds acts other b a' r = r
+parts_case P op.Unknown binds acts other b a' r = r

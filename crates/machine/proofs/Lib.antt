@@ -3,6 +3,7 @@ pub mod Memory
 pub mod Arms
 pub mod Fill
 pub mod Stack
+pub mod Codes
 pub mod Ready
 pub mod Transitions
 pub mod Simulation

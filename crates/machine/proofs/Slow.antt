@@ -4,7 +4,6 @@ use Rattle.std.proofs.lemmas.Grind.{common_steps}
 use Rattle.cells.specs.Lent.{lowest_run}
 use Rattle.calculus.specs.declared.Halt.{Halt}
 use Rattle.calculus.specs.declared.Halt.TheVariants as halts
-use Rattle.calculus.specs.declared.Act.{Act}
 use Rattle.calculus.specs.declared.Operation.{Operation}
 use Rattle.calculus.specs.declared.Operation.TheVariants as op
 use Rattle.yields.specs.declared.Terms.{Terms}
@@ -23,8 +22,9 @@ use Rattle.machine.specs.Rows.{node_at, frame_at}
 use Rattle.machine.specs.Redexes.{one_yield}
 use Rattle.machine.specs.Malloc.{size_in, room_taken, room_found, room_for}
 use Rattle.machine.specs.Nodes.{variable_at, first_part, entered, entering}
-use Rattle.machine.specs.Values.{second_part, binding, after_first, after_second, by_parts, resumed_by, handing}
+use Rattle.machine.specs.Values.{second_part, binding, after_first, after_second, resumed_by, handing}
 use Rattle.machine.specs.Turns.{transition, by_focus}
+use Rattle.machine.proofs.Arms.{parts_case}
 
 -- a transition after which no more steps are counted than n and one; where the run ends nothing is said
 abbrev Slow : ℕ → Turn → Type 0
@@ -76,30 +76,16 @@ module _ (structs types : List ℕ) (T : Terms) (ws frames bound : List ℕ) (s 
   slow_entered at op.Field argument kind = slow_first frames s at op.Field
   slow_entered at op.Unknown argument kind = slow_first frames s at op.Unknown
 
--- what holds of each of the three that may stand by the parts of an operation
-by_parts_case : {A : Type 0} (P : A → Type 0) (o : Operation) (binds : Unit {0} → A) (acts : Act → A) (other : Unit {0} → A)
-    → P (binds tt) → ((a : Act) → P (acts a)) → P (other tt) → P (by_parts o binds acts other)
-by_parts_case P op.Let binds acts other b a c = b
-by_parts_case P (op.Acts o) binds acts other b a c = a o
-by_parts_case P op.Literal binds acts other b a c = c
-by_parts_case P op.Variable binds acts other b a c = c
-by_parts_case P op.Malloc binds acts other b a c = c
-by_parts_case P op.Unchecked binds acts other b a c = c
-by_parts_case P op.Cast binds acts other b a c = c
-by_parts_case P op.Read binds acts other b a c = c
-by_parts_case P op.Field binds acts other b a c = c
-by_parts_case P op.Unknown binds acts other b a c = c
-
 module _ (structs : List ℕ) (T : Terms) (ws frames bound : List ℕ) (s : State) (v : CodedValue) where
   slow_resumed : (d : Option CodedValue) (n : Node) (inside : Bool) → Slow s.steps (resumed_by d structs T ws frames bound s v n inside).turn
   unfolding after_first after_second second_part settled
   slow_resumed None n inside =
-      by_parts_case (λ (m : Stacked). Slow s.steps m.turn) n.operation _ _ _
+      parts_case (λ (m : Stacked). Slow s.steps m.turn) n.operation _ _ _
       (slow_binding T.limit frames bound (at_height s s.height inside) v n.second)
       (λ a. omega arith)
       (slow_contracted T.limit (popped (at_height s s.height inside)) (one_yield structs T.words ws v n.operation n.argument n.kind))
   slow_resumed (Some d) n inside =
-      by_parts_case (λ (m : Leaving). Slow s.steps m.turn) n.operation _ _ _
+      parts_case (λ (m : Leaving). Slow s.steps m.turn) n.operation _ _ _
       (omega arith)
       (λ a. slow_contracted T.limit (at_height s (s.height - 1) inside) (act_gives Whole T.words ws a v.value v.code d.value d.code).yield)
       (omega arith)

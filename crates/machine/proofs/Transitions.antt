@@ -2,14 +2,14 @@
 use Rattle.std.proofs.Common.{◌≡◌, ℕ, suc, ◌+◌, ◌-◌, ◌*◌, ◌/◌, ◌<◌, ◌≤◌, Bool, true, false, eqb, List, ◌∷◌, length, get_or, refl, ap, ◌∙◌, add-one, arith, ne_eqb, le-leb, Option, Some, None}
 use borrow.Author.Tests.{lt-leb}
 use Rattle.choice.specs.Choice.{choose}
-use Rattle.cells.specs.Code.{packed, number_in, Small}
+use Rattle.cells.specs.Code.{packed, Small}
 use Rattle.cells.specs.Heap.{Heap, SmallHeap, look, undefined}
 use Rattle.cells.specs.Free.{lowest_in}
 use Rattle.cells.specs.Lent.{lent, put_word}
 use Rattle.cells.specs.declared.Mode.{Mode}
 use Rattle.cells.specs.declared.Mode.TheVariants.{Checked}
 use Rattle.cells.specs.declared.Kind.{Kind}
-use Rattle.cells.specs.declared.Kind.TheVariants.{Int, Word, Struct, Array}
+use Rattle.cells.specs.declared.Kind.TheVariants.{Int}
 use Rattle.cells.specs.declared.Cell.{Cell}
 use Rattle.cells.proofs.Codes.{round_trip, packed_not_zero}
 use Rattle.cells.proofs.View.{length_put}
@@ -25,9 +25,6 @@ use Rattle.calculus.specs.declared.Operation.{Operation}
 use Rattle.calculus.specs.declared.Operation.TheVariants as op
 use Rattle.image.specs.Tabled.{Row, Spans, s_lit, s_var, s_malloc, s_bind, s_one, s_two, one_operation, one_argument, one_kind}
 use Rattle.image.specs.Shape.{Scoped, scoped_var, scoped_bind, scoped_one, scoped_two, SmallExpr, small_lit, small_malloc, small_bind, small_two, height}
-use Rattle.tables.specs.Kinds.{size_at, field_count_at}
-use Rattle.tables.proofs.Coded.{kind_tag, kind_count, tag_kind, count_kind, count_whole}
-use Rattle.tables.proofs.Held.{size_kind}
 use Rattle.yields.specs.declared.ArrayCounts.TheVariants.{Whole}
 use Rattle.yields.specs.declared.Hint.{Hint}
 use Rattle.yields.specs.declared.Terms.{Terms}
@@ -45,7 +42,7 @@ use Rattle.machine.specs.States.{Leaving, Moved, leaving, moved, on_heap, coded_
 use Rattle.machine.specs.States as states
 use Rattle.machine.specs.Rows.{node, frame_row, frame_at, framed, kept}
 use Rattle.machine.specs.Redexes.{one_yield}
-use Rattle.machine.specs.Malloc.{size_in, room_taken, room_found, room_for, room_at}
+use Rattle.machine.specs.Malloc.{room_taken, room_found, room_for, room_at}
 use Rattle.machine.specs.Nodes.{inside_of, variable_at, first_part, entered}
 use Rattle.machine.specs.Values.{second_part, binding, after_first, after_second, resumed_by, handing}
 use Rattle.machine.specs.Turns.{transition}
@@ -55,6 +52,7 @@ use Rattle.calculus.proofs.Contexts.{Hole, plugs, under, context, busy_stuck, bu
 use Rattle.machine.proofs.Fill.{fill, fill_more, fill_bound}
 use Rattle.machine.proofs.Stack.{small_node, small_part, ticks, mode_inside, held, Waits, Stack, bottom, on_one, on_bound, on_left}
 use Rattle.machine.proofs.Stack.{on_right, on_body, Env, one_let, stack_kept, env_kept, lets_few, env_at, env_small}
+use Rattle.machine.proofs.Codes.{size_same}
 use Rattle.machine.proofs.Ready.{node_as}
 
 -- SimNodes table R focus height lets inside frames bound e left: a machine in such a state holds the expression e, with at most `left`
@@ -70,21 +68,6 @@ pub data SimNodes (table : List ℕ) (R : ℕ) : Focus → (height lets : ℕ) (
 -- a kind's code is that of a value
 code_told : (κ : Kind) → eqb (packed κ) 0 ≡ false
 code_told κ = ne_eqb (packed κ) 0 (packed_not_zero κ)
-
--- the target of a pointer whose numbers fit covers as many words by its whole count
-size_whole : (structs : List ℕ) {κ : Kind} → Small κ → size_in structs (packed κ) ≡ size_at structs (packed κ)
-unfolding size_in size_at
-size_whole structs {κ} s = rw (tag_kind κ, count_kind s, count_whole s) (go κ (field_count_at structs (number_in (packed κ))))
-  where
-    go : (κ : Kind) (n : ℕ)
-        → choose (eqb (kind_tag κ) 0) (λ _. 0) (λ _. choose (eqb (kind_tag κ) 1) (λ _. 1) λ _.
-        choose (eqb (kind_tag κ) 2) (λ _. n) (λ _. kind_count κ))
-        ≡ choose (eqb (kind_tag κ) 1) (λ _. 1) λ _. choose (eqb (kind_tag κ) 2) (λ _. n) λ _.
-        choose (eqb (kind_tag κ) 3) (λ _. kind_count κ) (λ _. 0)
-    go Int n = refl
-    go (Word m k) n = refl
-    go (Struct m k) n = refl
-    go (Array m c k) n = refl
 
 less : (n : ℕ) → suc n - 1 ≡ n
 less n = omega arith
@@ -145,7 +128,7 @@ module _ {S : Setting} {T : Terms} {ws structs types : List ℕ} (L : OnTerms S 
         → Does s (room_at structs types T (lent H ws) s (packed κ)) (malloc_redex S H κ)
     unfolding room_for room_taken malloc_redex
     malloc_does s κ k sm =
-        rw (size_whole structs sm, size_kind L.setting sm, found_as L H s.hint (size S κ) hs hl k)
+        rw (size_same L.setting κ sm, found_as L H s.hint (size S κ) hs hl k)
         (go (eqb (size S κ) 0) (lowest_in (λ a. undefined (look H a)) (size S κ) S.low S.high) refl)
       where
         go : (b : Bool) (run : Option ℕ) → lowest_in (λ a. undefined (look H a)) (size S κ) S.low S.high ≡ run

@@ -2,7 +2,9 @@
 pub mod Close
 pub mod Continuations
 pub mod Advances
+pub mod Others
 pub mod Settled
+pub mod Looks
 pub mod OnePart
 pub mod Listed
 pub mod Fitting
@@ -11,3 +13,4 @@ pub mod Follows
 pub mod NextStep
 pub mod RunSteps
 pub mod NeverGoes
+pub mod Onward
