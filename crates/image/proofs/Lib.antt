@@ -6,6 +6,7 @@ pub mod Each
 pub mod Sets
 pub mod Turns
 pub mod Repeats
+pub mod TableLaws
 pub mod AnswerBounds
 pub mod Within
 pub mod Tail

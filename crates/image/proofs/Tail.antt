@@ -2,7 +2,7 @@
 -- Assumes nothing.
 use mathlib.Core.Path.{◌≡◌, refl}
 use mathlib.Core.List.{List, [], ◌∷◌}
-use Prim.Native.Nat.{ℕ, ◌+◌, ◌<◌}
+use Prim.Native.Nat.{ℕ, suc, ◌+◌, ◌<◌}
 use native.Mathlib.Omega.{arith}
 use lib.ListN.{length, drop, length-drop}
 use Rattle.std.proofs.Common.{Err}
@@ -18,10 +18,11 @@ empty : (l : List ℕ) → length l ≡ 0 → l ≡ []
 empty [] e = refl
 empty (x ∷ l) e = absurd (omega arith)
 
--- nothing is read of no bytes
-nothing : (types : List ℕ) (structs : ℕ) (t : List ℕ) → node_into [] types structs 64 0 0 0 t ≡ filled (Err (refusal fault.Ends 0)) t
+-- nothing is read of no bytes, at whatever depth
+empty_part : (types : List ℕ) (structs : ℕ) (t : List ℕ) (deep : ℕ)
+    → node_into [] types structs (suc deep) 0 0 0 t ≡ filled (Err (refusal fault.Ends 0)) t
 unfolding node_into head_into number groups
-nothing types structs t = refl
+empty_part types structs t deep = refl
 
 module _ (image types : List ℕ) (structs at : ℕ) (t : List ℕ) where
   -- an offset behind the image: it ends there
@@ -30,7 +31,7 @@ module _ (image types : List ℕ) (structs at : ℕ) (t : List ℕ) where
   nothing_read h =
       let none : drop at image ≡ [] = empty (drop at image) (omega (arith, length-drop at image)) in
       let e : at + 0 ≡ at = omega arith in
-      rw (none, nothing types structs t, e)
+      rw (none, empty_part types structs t 63, e)
 
 -- no place that is told lies behind the part
 pub part_within : (part types : List ℕ) (structs : ℕ) (t : List ℕ)

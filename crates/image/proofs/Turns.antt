@@ -1,15 +1,19 @@
 -- One turn of each reader that writes a table: what the loops of the code go by.
 -- Assumes nothing.
 use mathlib.Core.Path.{◌≡◌}
+use mathlib.Core.Bool.{true}
 use mathlib.Core.List.{List}
 use Prim.Native.Nat.{ℕ, suc, ◌+◌, ◌-◌, ◌<◌}
 use native.Mathlib.Omega.{arith}
 use lib.ListN.{get_or, set, take}
-use Rattle.std.proofs.Common.{Err}
+use Rattle.std.specs.Prelude.{Result}
+use Rattle.std.proofs.Common.{Ok, Err}
 use Rattle.choice.specs.Choice.{choose}
 use Rattle.cells.specs.Code.{packed}
+use Rattle.calculus.specs.declared.Fault.{Fault}
 use Rattle.calculus.specs.declared.Fault.TheVariants as fault
-use Rattle.image.specs.Parsing.{below}
+use Rattle.calculus.specs.declared.Refusal.{Refusal}
+use Rattle.image.specs.Parsing.{got, refused, below}
 use Rattle.image.specs.Tables.{read_entry}
 use Rattle.image.specs.Answers.{refusal, mapped}
 use Rattle.image.specs.Filled.{filled}
@@ -17,6 +21,26 @@ use Rattle.image.specs.Tabling.{on_read, on_filled, fields_into, struct_into, st
 
 is_suc : (n : ℕ) → 0 < n → n ≡ suc (n - 1)
 is_suc n h = omega arith
+
+module _ (image : List ℕ) (known left to at : ℕ) (t : List ℕ) where
+  pub fields_done : left ≡ 0 → fields_into image known left to at t ≡ filled (Ok at) t
+  unfolding fields_into
+  fields_done z = rw z
+
+  pub structs_done : left ≡ 0 → structs_into image known left to at t ≡ filled (Ok at) t
+  unfolding structs_into
+  structs_done z = rw z
+
+  module _ (l : ℕ) (s : left ≡ suc l) where
+    pub fields_refused : {f : Fault} {p : ℕ} → below fault.Unknown known image at ≡ refused f p
+        → fields_into image known left to at t ≡ filled (Err (refusal f p)) t
+    unfolding fields_into
+    fields_refused e = rw (s, e)
+
+    pub structs_refused : {r : Result ℕ Refusal} {t' : List ℕ} → filled r t' ≡ struct_into image known to at t → {q : Refusal} → r ≡ Err q
+        → structs_into image known left to at t ≡ filled (Err q) t'
+    unfolding structs_into
+    structs_refused e p = rw (s, ← e, p)
 
 module _ (image : List ℕ) (known left to at : ℕ) (t : List ℕ) (h : 0 < left) where
   pub fields_turn : fields_into image known left to at t
@@ -37,6 +61,22 @@ module _ (image : List ℕ) (known left to at : ℕ) (t : List ℕ) (h : 0 < lef
           ≡ on_filled (struct_into image known to at t) (λ next t'. structs_into image known l (to + 17) next t')
       go l e = rw e
 
+module _ (image : List ℕ) (S left own at : ℕ) (t : List ℕ) where
+  pub types_done : left ≡ 0 → types_into image S left own at t ≡ filled (Ok at) t
+  unfolding types_into
+  types_done z = rw z
+
+  module _ (l : ℕ) (s : left ≡ suc l) where
+    pub types_repeat : {code next : ℕ} → mapped packed (read_entry image S own at) ≡ got code next → among code (take own t) ≡ true
+        → types_into image S left own at t ≡ filled (Err (refusal fault.Repeat at)) t
+    unfolding types_into
+    types_repeat e n = rw (s, e, n)
+
+    pub types_refused : {f : Fault} {p : ℕ} → mapped packed (read_entry image S own at) ≡ refused f p
+        → types_into image S left own at t ≡ filled (Err (refusal f p)) t
+    unfolding types_into
+    types_refused e = rw (s, e)
+
 module _ (image : List ℕ) (S left own at : ℕ) (t : List ℕ) (h : 0 < left) where
   pub types_turn : types_into image S left own at t
       ≡ on_read (mapped packed (read_entry image S own at)) t
@@ -52,6 +92,17 @@ module _ (image : List ℕ) (S left own at : ℕ) (t : List ℕ) (h : 0 < left) 
           (λ _. filled (Err (refusal fault.Repeat at)) t)
           (λ _. types_into image S l (own + 1) next (set t own code)))
       go l e = rw e
+
+module _ (image : List ℕ) (words : ℕ) (types : List ℕ) (known left before i at : ℕ) (t : List ℕ) where
+  pub cells_done : left ≡ 0 → cells_into image words types known left before i at t ≡ filled (Ok at) t
+  unfolding cells_into
+  cells_done z = rw z
+
+  module _ (l : ℕ) (s : left ≡ suc l) where
+    pub cells_refused : {f : Fault} {p : ℕ} → read_row image words known before at ≡ refused f p
+        → cells_into image words types known left before i at t ≡ filled (Err (refusal f p)) t
+    unfolding cells_into
+    cells_refused e = rw (s, e)
 
 module _ (image : List ℕ) (words : ℕ) (types : List ℕ) (known left before i at : ℕ) (t : List ℕ) (h : 0 < left) where
   pub cells_turn : cells_into image words types known left before i at t
