@@ -1,15 +1,17 @@
 -- Of what crosses the recursive call: what fits its bits comes out as it went in.
 use Prim.Native.Nat.{ℕ, zero, suc, ◌+◌, ◌*◌, ◌/◌, ◌%◌, ◌≤◌, ◌<◌}
 use mathlib.Core.Path.{◌≡◌, refl, ◌∙◌, ap}
+use mathlib.Core.Bool.{true}
 use native.Mathlib.Omega.{arith}
+use lib.Dec.{leb}
 use lib.ListN.{get_or-eq_default}
-use borrow.Author.Tests.{lt-ltb, le-ltb}
+use borrow.Author.Tests.{lt-ltb, le-ltb, le-leb}
 use Rattle.std.proofs.Common.{Ok, Err}
 use Rattle.calculus.specs.Answers.{fault_number}
 use Rattle.calculus.specs.declared.Fault.{Fault}
 use Rattle.calculus.specs.declared.Fault.TheVariants.{Ends, Unfit, Format, Limit, Unknown, Repeat, Beyond, Behind, NoRule, IllTyped}
 use Rattle.image.specs.Answers.{refusal}
-use Rattle.reader.specs.Cursors.{ReadingAt, reading_at, cursor_number, standing_in, behind_head, behind_row, fault_list, fault_of, crossed}
+use Rattle.reader.specs.Cursors.{ReadingAt, reading_at, cursor_number, standing_in, behind_head, behind_row, fault_list, fault_of, answer_number, crossed}
 
 -- ---- where reading stands, in numbers that fit
 standing_is : {o o' n n' r r' : ℕ} → o ≡ o' → n ≡ n' → r ≡ r' → reading_at o n r ≡ reading_at o' n' r'
@@ -31,7 +33,7 @@ module _ (offset nodes rows : ℕ) (near : offset < 274877906944) (few : nodes <
       rw (lt-ltb n 9223372036854775808 small, back low)
 
 -- behind a head that ends at `next`
-pub behind_is : (at i p next : ℕ) → i < 2048 → next < 274877906944 → behind_head (reading_at at i p) next ≡ reading_at next (suc i) p
+pub behind_is : (at i p next : ℕ) → i < 4095 → next < 274877906944 → behind_head (reading_at at i p) next ≡ reading_at next (suc i) p
 unfolding behind_head
 behind_is at i p next few near = standing_is (omega arith) (omega arith) refl
 
@@ -75,6 +77,10 @@ fault_below Beyond = omega arith
 fault_below Behind = omega arith
 fault_below NoRule = omega arith
 fault_below IllTyped = omega arith
+
+-- a refusal's number has bit 63
+pub is_refusal_lem : (f : Fault) (place : ℕ) → leb 9223372036854775808 (answer_number (Err (refusal f place))) ≡ true
+is_refusal_lem f place = le-leb 9223372036854775808 (answer_number (Err (refusal f place))) (omega arith)
 
 module _ (f : Fault) (place : ℕ) (near : place < 274877906944) where
   fault_there : (n : ℕ) → n < 16 → (9223372036854775808 + 274877906944 * n + place % 274877906944) / 274877906944 % 16 ≡ n
