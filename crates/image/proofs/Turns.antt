@@ -19,7 +19,7 @@ use Rattle.image.specs.Answers.{refusal, mapped}
 use Rattle.image.specs.Filled.{filled}
 use Rattle.image.specs.Tabling.{on_read, on_filled, fields_into, struct_into, structs_into, among, types_into, read_row, cell_set, cells_into}
 
-is_suc : (n : ℕ) → 0 < n → n ≡ suc (n - 1)
+pub is_suc : (n : ℕ) → 0 < n → n ≡ suc (n - 1)
 is_suc n h = omega arith
 
 module _ (image : List ℕ) (known left to at : ℕ) (t : List ℕ) where

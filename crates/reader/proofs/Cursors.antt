@@ -78,14 +78,21 @@ fault_below Behind = omega arith
 fault_below NoRule = omega arith
 fault_below IllTyped = omega arith
 
--- a refusal's number has bit 63
-pub is_refusal_lem : (f : Fault) (place : ℕ) → leb 9223372036854775808 (answer_number (Err (refusal f place))) ≡ true
-is_refusal_lem f place = le-leb 9223372036854775808 (answer_number (Err (refusal f place))) (omega arith)
+-- its number has bit 63, and its fault and its place come out of it
+module _ (f : Fault) (place : ℕ) where
+  pub is_refusal_lem : leb 9223372036854775808 (answer_number (Err (refusal f place))) ≡ true
+  is_refusal_lem = le-leb 9223372036854775808 (answer_number (Err (refusal f place))) (omega arith)
+
+  number_there : (n : ℕ) → n < 16 → (9223372036854775808 + 274877906944 * n + place % 274877906944) / 274877906944 % 16 ≡ n
+  number_there n l = omega arith
+
+  pub fault_refusal : fault_of (answer_number (Err (refusal f place)) / 274877906944 % 16) ≡ f
+  fault_refusal = rw (number_there (fault_number f) (fault_below f)) (fault_back f)
+
+  pub place_refusal : place < 274877906944 → answer_number (Err (refusal f place)) % 274877906944 ≡ place
+  place_refusal l = omega arith
 
 module _ (f : Fault) (place : ℕ) (near : place < 274877906944) where
-  fault_there : (n : ℕ) → n < 16 → (9223372036854775808 + 274877906944 * n + place % 274877906944) / 274877906944 % 16 ≡ n
-  fault_there n l = omega arith
-
   place_there : (n : ℕ) → (9223372036854775808 + 274877906944 * n + place % 274877906944) % 274877906944 ≡ place
   place_there n = omega arith
 
@@ -94,4 +101,4 @@ module _ (f : Fault) (place : ℕ) (near : place < 274877906944) where
   crossed_refused =
       let n : ℕ = 9223372036854775808 + 274877906944 * fault_number f + place % 274877906944 in
       let large : 9223372036854775808 ≤ n = omega arith in
-      rw (le-ltb n 9223372036854775808 large, fault_there (fault_number f) (fault_below f), place_there (fault_number f), fault_back f)
+      rw (le-ltb n 9223372036854775808 large, number_there f place (fault_number f) (fault_below f), place_there (fault_number f), fault_back f)
