@@ -48,7 +48,11 @@ abbrev cleared : List Bool
 cleared = replicate 1024 false
 
 pub int_marked : (t : List ℕ) → get_or t 0 1 ≡ 1 → Marked (set cleared 1 true) t 1
-int_marked t e = record { wide = length-set cleared 1 true ∙ length-replicate {A = Bool} 1024 false; mark = λ j h l. at_none j (omega arith) l }
+int_marked t e =
+    record {
+      wide = length-set cleared 1 true ∙ length-replicate {A = Bool} 1024 false;
+      mark = λ j h l. at_none j (omega arith) l;
+    }
   where
     at_none : (j : ℕ) → j ≡ 0 → j < length t → get_or (set cleared 1 true) (get_or t j 0 % 1021) false ≡ true
     at_none j z l = rw (z, int_there t (omega arith) e)

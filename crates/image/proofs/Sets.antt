@@ -35,6 +35,17 @@ sets_there t to (n ∷ ns) (suc j) l h =
     let e : to + suc j ≡ suc to + j = omega arith in
     rw e (sets_there (set t to n) (suc to) ns j (omega (arith, length-set t to n)) (omega arith))
 
+-- three or four numbers, one store after another
+module _ (t : List ℕ) (to a b c : ℕ) where
+  pub sets_three : set (set (set t to a) (to + 1) b) (to + 2) c ≡ sets t to (a ∷ b ∷ c ∷ [])
+  sets_three =
+      let one : to + 1 ≡ suc to = omega arith in
+      let two : to + 2 ≡ suc (suc to) = omega arith in
+      rw (one, two)
+
+  pub sets_four : (d : ℕ) → set (set (set (set t to a) (to + 1) b) (to + 2) c) (to + 3) d ≡ sets t to (a ∷ b ∷ c ∷ d ∷ [])
+  sets_four d = let three : to + 3 ≡ suc (suc (suc to)) = omega arith in rw (sets_three, three)
+
 -- a part of the table that was written anew
 pub put_mid_sets : (a k : ℕ) (t ns : List ℕ) → k ≡ length ns → a + k ≤ length t → put_mid a k t ns ≡ sets t a ns
 put_mid_sets a k t ns e h = rw (sets-eq ns t a (omega arith), e, drop-drop (length ns) a t, append_assoc)

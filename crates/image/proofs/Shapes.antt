@@ -180,7 +180,8 @@ module _ (image : List ℕ) (t : Tables) where
   node_good {deep} {lets} {before} {at} q = given_by (node_gives deep lets before at) q
 
 -- It ends behind its first byte.
-pub good_behind : {image : List ℕ} {t : Tables} {deep lets before at : ℕ} {e : Expr} {next : ℕ} → NodeGood image t deep lets before at e next → at < next
+pub good_behind : {image : List ℕ} {t : Tables} {deep lets before at : ℕ} {e : Expr} {next : ℕ}
+    → NodeGood image t deep lets before at e next → at < next
 good_behind {e = e} g = omega (arith, nodes_some e)
 
 -- The whole expression, from `at` on.

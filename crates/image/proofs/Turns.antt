@@ -1,11 +1,11 @@
 -- One turn of each reader that writes a table: what the loops of the code go by.
 -- Assumes nothing.
-use mathlib.Core.Path.{◌≡◌}
+use mathlib.Core.Path.{◌≡◌, sym, ◌∙◌}
 use mathlib.Core.Bool.{true}
 use mathlib.Core.List.{List}
-use Prim.Native.Nat.{ℕ, suc, ◌+◌, ◌-◌, ◌<◌}
+use Prim.Native.Nat.{ℕ, suc, ◌+◌, ◌-◌, ◌<◌, ◌≤◌}
 use native.Mathlib.Omega.{arith}
-use lib.ListN.{get_or, set, take}
+use lib.ListN.{length, get_or, set, take}
 use Rattle.std.specs.Prelude.{Result}
 use Rattle.std.proofs.Common.{Ok, Err}
 use Rattle.choice.specs.Choice.{choose}
@@ -16,11 +16,29 @@ use Rattle.calculus.specs.declared.Refusal.{Refusal}
 use Rattle.image.specs.Parsing.{got, refused, below}
 use Rattle.image.specs.Tables.{read_entry}
 use Rattle.image.specs.Answers.{refusal, mapped}
-use Rattle.image.specs.Filled.{filled}
+use Rattle.image.specs.Filled.{Filled, filled}
 use Rattle.image.specs.Tabling.{on_read, on_filled, fields_into, struct_into, structs_into, among, types_into, read_row, cell_set, cells_into}
+
+-- a loop that fills a table: what the whole gives is what the rest gives, and the table keeps its length
+pub record Going (whole rest : Filled (Result ℕ Refusal)) (entry table : List ℕ) : Type 0 where
+  pub same : whole ≡ rest
+  pub long : length table ≡ length entry
 
 pub is_suc : (n : ℕ) → 0 < n → n ≡ suc (n - 1)
 is_suc n h = omega arith
+
+pub is_zero : (n : ℕ) → n ≤ 0 → n ≡ 0
+is_zero n h = omega arith
+
+-- the end of a loop
+pub ended : {whole rest : Filled (Result ℕ Refusal)} {entry table : List ℕ} {end : Filled (Result ℕ Refusal)} → Going whole rest entry table
+    → rest ≡ end → end ≡ whole
+ended m e = sym (m.same ∙ e)
+
+-- a turn
+pub going_turned : {whole rest next : Filled (Result ℕ Refusal)} {entry table table' : List ℕ} → Going whole rest entry table → rest ≡ next
+    → length table' ≡ length table → Going whole next entry table'
+going_turned m e l = record { same = m.same ∙ e; long = l ∙ m.long }
 
 module _ (image : List ℕ) (known left to at : ℕ) (t : List ℕ) where
   pub fields_done : left ≡ 0 → fields_into image known left to at t ≡ filled (Ok at) t

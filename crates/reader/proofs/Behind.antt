@@ -17,5 +17,6 @@ pub was_operand : (r : Parsed PartLine) {o : Result (Read PartLine) Refusal} {k 
     → o ≡ Ok (with_next (one_line k s d inside) next) → r ≡ got (one_line k s d inside) next
 was_operand r {k = k} {s} {d} {inside} {next} e p = was_got r {x = with_next (one_line k s d inside) next} (sym p ∙ e)
 
-pub was_no_operand : (r : Parsed PartLine) {o : Result (Read PartLine) Refusal} {q : Refusal} → o ≡ told r → o ≡ Err q → r ≡ refused q.fault q.place
+pub was_no_operand : (r : Parsed PartLine) {o : Result (Read PartLine) Refusal} {q : Refusal} → o ≡ told r → o ≡ Err q
+    → r ≡ refused q.fault q.place
 was_no_operand r {q = q} e p = was_refused r {q = q} (sym p ∙ e)

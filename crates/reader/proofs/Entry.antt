@@ -25,4 +25,9 @@ module _ (image : List ℕ) (known structs at : ℕ) (t : List ℕ) where
     module _ (in_image : at ≤ length image) where
       pub too_few : whole_rows t < most_rows (length image - at) → filled (Err Short) t ≡ expression_rows image known structs at t
       unfolding expression_rows
-      too_few l = rw (le-ltb 16384 (length image) fits, le-ltb (length image) at in_image, lt-ltb (whole_rows t) (most_rows (length image - at)) l)
+      too_few l =
+          rw (
+            le-ltb 16384 (length image) fits,
+            le-ltb (length image) at in_image,
+            lt-ltb (whole_rows t) (most_rows (length image - at)) l,
+          )
