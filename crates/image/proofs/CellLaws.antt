@@ -113,6 +113,22 @@ cells_give image words types (suc left) before at =
         }
 
 -- addresses by number: the i-th rises above `before` and below each later one, and none is above W
+abbrev pub address_of : List Placed → ℕ → ℕ
+address_of ps i = (get_or ps i (record { address = 0; held = cell 0 Int })).address
+
+pub lowest_cell : {words : ℕ} {types : List Kind} {before : ℕ} {ps : List Placed} → Rising words types before ps → (i : ℕ) → i < length ps
+    → (before < address_of ps i) × (address_of ps i ≤ words)
+lowest_cell rising_none i h = absurd (omega arith)
+lowest_cell (rising a b f k e r) zero h = (a, b)
+lowest_cell (rising a b f k e r) (suc i) h = let (p, q) = lowest_cell r i (omega arith) in (omega arith, q)
+
+pub rises_on : {words : ℕ} {types : List Kind} {before : ℕ} {ps : List Placed} → Rising words types before ps → (i j : ℕ) → i < j → j < length ps
+    → address_of ps i < address_of ps j
+rises_on rising_none i j l h = absurd (omega arith)
+rises_on (rising a b f k e r) zero (suc j) l h = (lowest_cell r j (omega arith)).0
+rises_on (rising a b f k e r) (suc i) (suc j) l h = rises_on r i j (omega arith) (omega arith)
+rises_on (rising a b f k e r) i zero l h = absurd (omega arith)
+
 -- The cell table is filled as the definition reads: `cells_into` refuses where `read_cells` refuses, and leaves the rows of what it reads
 -- where the table has room for them.
 pub cells_fill : (image : List ℕ) (words : ℕ) (types : List Kind) (codes : List ℕ)

@@ -2,11 +2,14 @@
 pub mod Answered
 pub mod Gives
 pub mod Numbers
+pub mod Targets
 pub mod Each
 pub mod Sets
 pub mod Turns
 pub mod Repeats
 pub mod AnswerBounds
+pub mod TableLaws
+pub mod Heads
 pub mod Within
 pub mod Tail
 pub mod CellLaws

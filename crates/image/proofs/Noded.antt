@@ -13,12 +13,14 @@ use lib.Seq.{get_or-set_same, get_or-set_other}
 use Rattle.std.proofs.Common.{Ok, Err}
 use Rattle.choice.specs.Choice.{choose}
 use Rattle.cells.specs.Code.{packed}
+use Rattle.numbers.specs.declared.Read.{Read}
 use Rattle.calculus.specs.Expr.{Expr, bind, one, two, nodes, One}
 use Rattle.calculus.specs.Operations.{operation_of}
 use Rattle.calculus.specs.declared.Operation.{Operation}
 use Rattle.calculus.specs.declared.Operation.TheVariants as op
 use Rattle.calculus.specs.declared.Fault.{Fault}
 use Rattle.calculus.specs.declared.Fault.TheVariants as fault
+use Rattle.calculus.specs.declared.Refusal.{Refusal}
 use Rattle.image.specs.Content.{Tables}
 use Rattle.image.specs.Parsing.{Parsed, got, refused, then_read, number, carried}
 use Rattle.image.specs.Nodes.{Head, read_head, read_parts, read_node}
@@ -170,10 +172,21 @@ cut_into : (t : List ℕ) (i at : ℕ) (r : Parsed ℕ)
 cut_into t i at (got v next) = stopped refl
 cut_into t i at (refused f p) = stopped refl
 
--- what the relation says of the answer
+-- what the relation says of the answer, of the table, and of its length
 into_result : {t : List ℕ} {i : ℕ} {F : Noded} {r : Parsed Expr} → Into t i F r → F.result ≡ expression_answer i r
 into_result (into {next = next} c k span) = ap (λ n. Ok (with_next n next)) c
 into_result (stopped e) = refl
+
+into_length : {t : List ℕ} {i : ℕ} {F : Noded} {r : Parsed Expr} → Into t i F r → length F.table ≡ length t
+into_length (into c k span) = k.long
+into_length (stopped e) = e
+
+into_kept : {t : List ℕ} {i : ℕ} {F : Noded} {e : Expr} {next : ℕ} → Into t i F (got e next) → RowsKept t i (i + nodes e) F.table
+into_kept (into c k span) = rw c at k
+
+into_spans : {t : List ℕ} {i : ℕ} {F : Noded} {e : Expr} {next : ℕ} → Into t i F (got e next) → 4 * (i + nodes e) ≤ length t
+    → Spans F.table i e
+into_spans (into c k span) room = span (omega arith)
 
 -- The types that the reader is lent are the packed word types, and it is told how many structs there are.
 module _ (image : List ℕ) (tables : Tables) (types : List ℕ) (structs : ℕ) (types_are : types ≡ map packed tables.types)
@@ -195,6 +208,22 @@ module _ (image : List ℕ) (tables : Tables) (types : List ℕ) (structs : ℕ)
   pub node_result : (deep lets i at : ℕ) (t : List ℕ)
       → (node_into image types structs deep lets i at t).result ≡ expression_answer i (read_node image tables deep lets i at)
   node_result deep lets i at t = into_result (node_is deep lets i at t)
+
+  -- The table keeps its length,
+  pub node_length : (deep lets i at : ℕ) (t : List ℕ) → length (node_into image types structs deep lets i at t).table ≡ length t
+  node_length deep lets i at t = into_length (node_is deep lets i at t)
+
+  module _ (deep lets i at : ℕ) (t : List ℕ) {e : Expr} {next : ℕ} (q : read_node image tables deep lets i at ≡ got e next) where
+    was_read : Into t i (node_into image types structs deep lets i at t) (got e next)
+    was_read = rw q at (node_is deep lets i at t)
+
+    -- an expression that was read is held by its rows, if there is room,
+    pub node_spans : 4 * (i + nodes e) ≤ length t → Spans (node_into image types structs deep lets i at t).table i e
+    node_spans room = into_spans was_read room
+
+    -- and all others are as they were.
+    pub node_kept : RowsKept t i (i + nodes e) (node_into image types structs deep lets i at t).table
+    node_kept = into_kept was_read
 
 -- The whole expression, from `at` on: what was answered is carried back.
 carried_answered : (at : ℕ) (r : Parsed Expr) → carried_back at (expression_answer 0 r) ≡ expression_answer 0 (carried at r)
@@ -220,6 +249,10 @@ module _ (image : List ℕ) (tables : Tables) (types : List ℕ) (structs : ℕ)
       ap (carried_back at) (node_result (drop at image) tables types structs types_are structs_are 64 0 0 0 t)
       ∙ carried_answered at (read_node (drop at image) tables 64 0 0 0)
 
+  pub expression_length : length (expression_into image types structs at t).table ≡ length t
+  unfolding expression_into
+  expression_length = node_length (drop at image) tables types structs types_are structs_are 64 0 0 0 t
+
   left : {e : Expr} {next : ℕ} → read_expr image tables at ≡ got e next → Left t (expression_into image types structs at t).table e next
   unfolding expression_into read_expr
   left q = given_by (left_behind at (node_is (drop at image) tables types structs types_are structs_are 64 0 0 0 t)) q
@@ -232,3 +265,18 @@ module _ (image : List ℕ) (tables : Tables) (types : List ℕ) (structs : ℕ)
   pub expression_kept : {e : Expr} {next : ℕ} → read_expr image tables at ≡ got e next
       → RowsKept t 0 (nodes e) (expression_into image types structs at t).table
   expression_kept q = (left q).kept
+
+-- from the code's answer back to what the definition reads
+pub data ReadBack (r : Parsed Expr) (i next count : ℕ) : Type 0 where
+  read_back : (e : Expr) → r ≡ got e next → count ≡ i + nodes e → ReadBack r i next count
+
+pub was_read_as : (r : Parsed Expr) {i next count : ℕ} → Ok (with_next count next) ≡ expression_answer i r → ReadBack r i next count
+was_read_as (got e n) {i} {next} {count} q =
+    let s : with_next count next ≡ with_next (i + nodes e) n = cc in
+    let p : next ≡ n = ap (λ (x : Read ℕ). x.next) s in
+    read_back e (rw p) (ap (λ (x : Read ℕ). x.value) s)
+was_read_as (refused f p) q = cc
+
+pub was_refused_as : (r : Parsed Expr) (i : ℕ) {q : Refusal} → Err q ≡ expression_answer i r → r ≡ refused q.fault q.place
+was_refused_as (got e n) i q = cc
+was_refused_as (refused f p) i {q} e = let s : q ≡ refusal f p = cc in rw s

@@ -1,26 +1,61 @@
 -- Looking for a code among the first codes of a table: one after another, or by a mark that each of them has.
 -- Assumes nothing.
 use mathlib.Core.Path.{◌≡◌, refl, sym, ◌∙◌}
-use mathlib.Core.Bool.{Bool, true, false}
+use mathlib.Core.Bool.{Bool, true, false, ◌||◌, or-true, or-false}
 use mathlib.Core.List.{List, [], ◌∷◌}
 use mathlib.Core.Logic.{⊎_elim}
 use Prim.Native.Nat.{ℕ, zero, suc, ◌+◌, ◌%◌, ◌<◌}
 use native.Mathlib.Nat.{eq-or-lt_of_le}
 use native.Mathlib.Omega.{arith}
 use lib.Dec.{eqb}
-use lib.ListN.{length, get_or, set, take, length-set}
+use lib.ListN.{length, get_or, set, take, replicate, length-set, length-replicate}
 use lib.Seq.{take-nil, get_or-set_same, get_or-set_other}
-use borrow.Author.Tests.{ne_eqb, eqb-true, eqb-false}
+use borrow.Author.Tests.{eq-eqb, ne_eqb, eqb-true, eqb-false}
+use Rattle.std.specs.Bool.{◌==◌}
+use Rattle.std.proofs.lemmas.List.Folds.{list_any_more}
 use Rattle.choice.specs.Choice.{both}
 use Rattle.image.specs.Tabling.{among}
 
 apart : {b : Bool} → b ≡ true → b ≡ false → ⊥
 apart p q = cc
 
+-- one code more: it is the one that is looked for, or it changes nothing
+module _ (t : List ℕ) (code i : ℕ) (h : i < length t) where
+  more : among code (take (i + 1) t) ≡ (among code (take i t) || eqb (get_or t i 0) code)
+  more = list_any_more (λ c. c == code) t i 0 h
+
+  pub among_here : get_or t i 0 ≡ code → true ≡ among code (take (i + 1) t)
+  among_here e = sym (more ∙ rw (eq-eqb (get_or t i 0) code e) (or-true (among code (take i t))))
+
+  pub among_other : (get_or t i 0 ≡ code → ⊥) → among code (take i t) ≡ among code (take (i + 1) t)
+  among_other n = sym (more ∙ rw (ne_eqb (get_or t i 0) code n) (or-false (among code (take i t))))
+
 -- each of the first n codes of the table has its mark
 pub record Marked (marks : List Bool) (t : List ℕ) (n : ℕ) : Type 0 where
   pub wide : length marks ≡ 1024
   pub mark : (j : ℕ) → j < n → j < length t → get_or marks (get_or t j 0 % 1021) false ≡ true
+
+-- int alone, where the table has room for it
+pub int_put : (t : List ℕ) → get_or (set t 0 1) 0 1 ≡ 1
+int_put [] = refl
+int_put (c ∷ t) = refl
+
+int_there : (t : List ℕ) → 0 < length t → get_or t 0 1 ≡ 1 → get_or t 0 0 ≡ 1
+int_there [] h e = absurd (omega arith)
+int_there (c ∷ t) h e = e
+
+abbrev cleared : List Bool
+cleared = replicate 1024 false
+
+pub int_marked : (t : List ℕ) → get_or t 0 1 ≡ 1 → Marked (set cleared 1 true) t 1
+int_marked t e =
+    record {
+      wide = length-set cleared 1 true ∙ length-replicate {A = Bool} 1024 false;
+      mark = λ j h l. at_none j (omega arith) l;
+    }
+  where
+    at_none : (j : ℕ) → j ≡ 0 → j < length t → get_or (set cleared 1 true) (get_or t j 0 % 1021) false ≡ true
+    at_none j z l = rw (z, int_there t (omega arith) e)
 
 -- a mark stays where another is set
 mark_kept : (marks : List Bool) (i k : ℕ) → i < length marks → get_or marks k false ≡ true → get_or (set marks i true) k false ≡ true

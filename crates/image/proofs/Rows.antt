@@ -4,8 +4,8 @@ use mathlib.Core.Path.{◌≡◌, ◌∙◌, ap}
 use mathlib.Core.List.{List, [], ◌∷◌}
 use Prim.Native.Nat.{ℕ, ◌+◌, ◌*◌, ◌<◌, ◌≤◌}
 use native.Mathlib.Omega.{arith}
-use lib.ListN.{length, get_or}
-use lib.Seq.{sets}
+use lib.ListN.{length, get_or, take}
+use lib.Seq.{sets, get_or-take}
 use Rattle.calculus.specs.Expr.{Expr, nodes}
 use Rattle.calculus.specs.Operations.{operation_of}
 use Rattle.calculus.specs.declared.Operation.{Operation}
@@ -85,3 +85,7 @@ spans_kept (s_two r a b) same =
     (row_kept r (λ k l h. same k l (omega arith)))
     (spans_kept a (λ k l h. same k (omega arith) (omega arith)))
     (spans_kept b (λ k l h. same k (omega arith) (omega arith)))
+
+-- and it is held by its own rows alone
+pub spans_taken : {t : List ℕ} {e : Expr} → Spans t 0 e → Spans (take (4 * nodes e) t) 0 e
+spans_taken {t} {e} s = spans_kept s (λ k l h. get_or-take (4 * nodes e) t k 0 (omega arith))

@@ -1,15 +1,15 @@
 -- Numbers that were written to a table in a row: what stands at each index, and the table before and behind them; and rows of a table.
 -- Assumes nothing.
-use mathlib.Core.Path.{◌≡◌, refl, ◌∙◌}
+use mathlib.Core.Path.{◌≡◌, refl, ◌∙◌, ap}
 use mathlib.Core.List.{List, [], ◌∷◌, ◌++◌}
-use Prim.Native.Nat.{ℕ, zero, suc, ◌+◌, ◌*◌, ◌/◌, ◌<◌, ◌≤◌}
-use native.Mathlib.Nat.{zero-add}
+use Prim.Native.Nat.{ℕ, zero, suc, ◌+◌, ◌*◌, ◌/◌, ◌<◌, ◌≤◌, min}
+use native.Mathlib.Nat.{zero-add, zero-min, suc-min-suc}
 use native.Mathlib.Omega.{arith}
 use lib.ListN.{length, get_or, set, take, drop, length-set}
 use lib.Dec.{ltb}
-use lib.Seq.{sets, sets-eq, drop-drop, length-sets, get_or-set_same, get_or-set_other, take_at, drop_at}
+use lib.Seq.{sets, sets-eq, drop-drop, length-sets, get_or-set_same, get_or-set_other, take_at, drop_at, take-nil}
 use borrow.Rule.Slice.PartMut.{put_mid}
-use borrow.Author.Tests.{lt-ltb}
+use borrow.Author.Tests.{lt-ltb, le-ltb}
 use Rattle.std.proofs.Common.{append_assoc}
 use Rattle.choice.specs.Choice.{choose_case}
 use Rattle.image.specs.Filled.{row_stored}
@@ -35,6 +35,17 @@ sets_there t to (n ∷ ns) (suc j) l h =
     let e : to + suc j ≡ suc to + j = omega arith in
     rw e (sets_there (set t to n) (suc to) ns j (omega (arith, length-set t to n)) (omega arith))
 
+-- three or four numbers, one store after another
+module _ (t : List ℕ) (to a b c : ℕ) where
+  pub sets_three : set (set (set t to a) (to + 1) b) (to + 2) c ≡ sets t to (a ∷ b ∷ c ∷ [])
+  sets_three =
+      let one : to + 1 ≡ suc to = omega arith in
+      let two : to + 2 ≡ suc (suc to) = omega arith in
+      rw (one, two)
+
+  pub sets_four : (d : ℕ) → set (set (set (set t to a) (to + 1) b) (to + 2) c) (to + 3) d ≡ sets t to (a ∷ b ∷ c ∷ d ∷ [])
+  sets_four d = let three : to + 3 ≡ suc (suc (suc to)) = omega arith in rw (sets_three, three)
+
 -- a part of the table that was written anew
 pub put_mid_sets : (a k : ℕ) (t ns : List ℕ) → k ≡ length ns → a + k ≤ length t → put_mid a k t ns ≡ sets t a ns
 put_mid_sets a k t ns e h = rw (sets-eq ns t a (omega arith), e, drop-drop (length ns) a t, append_assoc)
@@ -44,6 +55,10 @@ module _ (width : ℕ) (t : List ℕ) (i : ℕ) (row : List ℕ) where
   pub stored_there : i < length t / width → row_stored width t i row ≡ sets t (width * i) row
   unfolding row_stored
   stored_there h = rw (lt-ltb i (length t / width) h)
+
+  pub stored_none : length t / width ≤ i → row_stored width t i row ≡ t
+  unfolding row_stored
+  stored_none h = rw (le-ltb i (length t / width) h)
 
   pub stored_length : length (row_stored width t i row) ≡ length t
   unfolding row_stored
@@ -69,3 +84,9 @@ module _ (t ns : List ℕ) (room : length ns ≤ length t) where
 
   pub front_drop : drop (length ns) (sets t 0 ns) ≡ drop (length ns) t
   front_drop = rw front (drop_at ns (drop (length ns) t) (length ns) refl)
+
+-- taking no more than there is
+pub take_min : (n : ℕ) (l : List ℕ) → take (min n (length l)) l ≡ take n l
+take_min zero l = rw zero-min
+take_min (suc n) [] = take-nil (min (suc n) 0)
+take_min (suc n) (x ∷ l) = rw suc-min-suc (ap (λ r. x ∷ r) (take_min n l))

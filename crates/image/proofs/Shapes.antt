@@ -174,6 +174,16 @@ module _ (image : List ℕ) (t : Tables) where
       gives_then (read_head image t lets before at) _ (head_gives lets before at)
       (λ h next s. parts_give deep (read_node image t deep) (node_gives deep) lets before at h next s)
 
+  -- An expression that was read at `at`, at most `deep` deep, inside `lets` lets and behind `before` nodes.
+  pub node_good : {deep lets before at : ℕ} {e : Expr} {next : ℕ} → read_node image t deep lets before at ≡ got e next
+      → NodeGood image t deep lets before at e next
+  node_good {deep} {lets} {before} {at} q = given_by (node_gives deep lets before at) q
+
+-- It ends behind its first byte.
+pub good_behind : {image : List ℕ} {t : Tables} {deep lets before at : ℕ} {e : Expr} {next : ℕ}
+    → NodeGood image t deep lets before at e next → at < next
+good_behind {e = e} g = omega (arith, nodes_some e)
+
 -- The whole expression, from `at` on.
 pub record Whole (image : List ℕ) (t : Tables) (at : ℕ) (e : Expr) (next : ℕ) : Type 0 where
   pub few : nodes e ≤ 2048

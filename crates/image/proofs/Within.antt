@@ -1,7 +1,7 @@
 -- Every offset and every place that a reading tells lies within the image, if it starts within it: of numbers, targets, and the
 -- expression as it goes into the node table. The measure of the last is the depth.
 -- Assumes nothing.
-use mathlib.Core.Path.{◌≡◌, refl}
+use mathlib.Core.Path.{◌≡◌, refl, ap}
 use mathlib.Core.Bool.{Bool, true, false}
 use mathlib.Core.List.{List}
 use Prim.Native.Nat.{ℕ, zero, suc, ◌+◌, ◌*◌, ◌≤◌}
@@ -24,7 +24,7 @@ use Rattle.calculus.specs.declared.Fault.TheVariants as fault
 use Rattle.calculus.specs.declared.Refusal.{Refusal}
 use Rattle.image.specs.Parsing.{Parsed, got, refused, then_read, as_reading, number, below}
 use Rattle.image.specs.Tables.{read_target}
-use Rattle.image.specs.Answers.{mapped, pointer_code}
+use Rattle.image.specs.Answers.{with_next, mapped, pointer_code}
 use Rattle.image.specs.Filled.{Filled, filled}
 use Rattle.image.specs.Tabling.{on_read, on_filled}
 use Rattle.image.specs.Filling.{Headed, Noded, kind_code, literal, line_of, lets_inside, head_into, parts_into, node_into}
@@ -149,3 +149,15 @@ module _ (image types : List ℕ) (structs : ℕ) where
       (λ x t'. parts_into (node_into image types structs deep) lets i x.value x.next t')
       (head_within lets i at t h)
       (λ x t' l. parts_within (length image) (node_into image types structs deep) (node_within deep) lets i x.value x.next t' l)
+
+-- what the code knows of an offset or a place that it was answered
+module _ (image types : List ℕ) (structs deep lets i at : ℕ) (t : List ℕ) (h : at ≤ length image) {r : Result (Read ℕ) Refusal} {t' : List ℕ}
+    (e : filled r t' ≡ node_into image types structs deep lets i at t) where
+  answer_within : ToldWithin (length image) r
+  answer_within = rw (ap (λ (f : Noded). f.result) e) (node_within image types structs deep lets i at t h)
+
+  pub read_within : {next count : ℕ} → r ≡ Ok (with_next count next) → next ≤ length image
+  read_within q = rw q at answer_within
+
+  pub refused_within : {q : Refusal} → r ≡ Err q → q.place ≤ length image
+  refused_within q = rw q at answer_within

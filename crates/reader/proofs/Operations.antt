@@ -93,7 +93,7 @@ module _ (image : List ℕ) (near : length image < 274877906944) (tables : Table
       (λ n at₁ l₁ w₁ x. read_into image (map packed tables.types) (below fault.Unknown (length tables.types) image at₁) _
       (λ r. Whole (then_read (then_read r (λ k next. got (get_or tables.types k Int) next)) (λ κ at₂. got (leaf (lit n κ)) at₂)))
       (λ f q. refl) (below_ending image at₁ w₁ (length tables.types))
-      (λ k at₂ l₂ w₂ x₂. rw (behind_is at i p at₂ more (omega arith))
+      (λ k at₂ l₂ w₂ x₂. rw (behind_is at i p at₂ (omega arith) (omega arith))
       (leaf_into image (map packed tables.types) near b t i p at at_node room more
       (lit n (get_or tables.types k Int)) task.Literal k n refl (omega arith) w₂
       (literal_written (map packed tables.types) t b i p (there (omega arith) w₂) (omega arith) k n (omega arith)
@@ -108,7 +108,7 @@ module _ (image : List ℕ) (near : length image < 274877906944) (tables : Table
       read_into image (map packed tables.types) (below fault.Unknown lets image start) _
       (λ r. Whole (then_read r (λ k at₁. got (leaf (var k)) at₁)))
       (λ f q. refl) (below_ending image start w lets)
-      (λ k at₁ l₁ w₁ x. rw (behind_is at i p at₁ more (omega arith))
+      (λ k at₁ l₁ w₁ x. rw (behind_is at i p at₁ (omega arith) (omega arith))
       (leaf_into image (map packed tables.types) near b t i p at at_node room more (var k) task.Variable k 0 refl (omega arith) w₁
       (variable_written (map packed tables.types) t b i p (there (omega arith) w₁) (omega arith) k (omega arith))))
 
@@ -121,7 +121,7 @@ module _ (image : List ℕ) (near : length image < 274877906944) (tables : Table
       target_into image (map packed tables.types) (pointer_code Checked) (read_target image (length tables.structs) (length tables.types) start) _
       (λ r. Whole (then_read r (λ ω at₁. got (leaf (malloc ω)) at₁)))
       (λ f q. refl) (target_ending image start w (length tables.structs) (length tables.types))
-      (λ ω at₁ l₁ w₁ x. rw (behind_is at i p at₁ more (omega arith))
+      (λ ω at₁ l₁ w₁ x. rw (behind_is at i p at₁ (omega arith) (omega arith))
       (leaf_into image (map packed tables.types) near b t i p at at_node room more
       (malloc ω) task.Malloc 0 (packed (pointer Checked ω)) refl (omega arith) w₁
       (malloc_written (map packed tables.types) t b i p (there (omega arith) w₁) (omega arith) ω
@@ -135,7 +135,7 @@ module _ (image : List ℕ) (near : length image < 274877906944) (tables : Table
       (one_into part' lets b (reading_at at i p) (got (one_line k slot datum b') next) t)
       (then_read (get lets (suc i) next) (λ e m. got (one o e) m))
   one_in o k slot datum b' next s work mode l w =
-      rw (behind_is at i p next more (omega arith))
+      rw (behind_is at i p next (omega arith) (omega arith))
       (one_into_lem image (map packed tables.types) near b t i p at at_node room more {o = o} {r = get lets (suc i) next} k slot datum s work mode l
       (each.goes lets b' (suc i) p next t (omega arith)
       (first_stands image (map packed tables.types) near deep part' get each lets b low t i p at at_node room more l w) room))

@@ -54,7 +54,7 @@ module _ (image types : List ℕ) (near : length image < 274877906944) (deep : �
       (then_read (get lets (suc i) start) (λ u at₁. then_read (get lets (suc i + nodes u) at₁) (λ v at₂. got (two (act o) u v) at₂)))
   unfolding act_rows
   act_into o start l w =
-      rw (behind_is at i p start more (omega arith))
+      rw (behind_is at i p start (omega arith) (omega arith))
       (act_behind o {r = get lets (suc i) start} l (each.goes lets b (suc i) p start t (omega arith) (first_stands l w) room))
 
   let_behind : {F : Reading} {r : Parsed Expr} {start : ℕ} → at < start → IntoRows image types t b (suc i) p start F r
@@ -77,5 +77,5 @@ module _ (image types : List ℕ) (near : length image < 274877906944) (deep : �
       (then_read (get lets (suc i) start) (λ u at₁. then_read (get (suc lets) (suc i + nodes u) at₁) (λ v at₂. got (bind u v) at₂)))
   unfolding let_rows
   let_into start l w =
-      rw (behind_is at i p start more (omega arith))
+      rw (behind_is at i p start (omega arith) (omega arith))
       (let_behind {r = get lets (suc i) start} l (each.goes lets b (suc i) p start t (omega arith) (first_stands l w) room))

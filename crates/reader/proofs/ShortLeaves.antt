@@ -1,7 +1,7 @@
 -- A leaf that is read by its bytes is read as any node is.
 use Prim.Native.Nat.{ℕ, zero, suc, ◌+◌, ◌-◌, ◌≤◌, ◌<◌}
 use mathlib.Core.Path.{◌≡◌, ◌∙◌, ap}
-use mathlib.Core.Bool.{Bool}
+use mathlib.Core.Bool.{Bool, true, false}
 use mathlib.Core.List.{List}
 use native.Mathlib.Omega.{arith}
 use lib.ListN.{length, get_or, take, drop, length-drop}
@@ -14,6 +14,10 @@ use Rattle.image.specs.Parsing.{got, number, below}
 use Rattle.reader.specs.Cursors.{ReadingAt, behind_head}
 use Rattle.reader.specs.Reads.{row_put, row_head, literal_rows, variable_rows, node_rows}
 use Rattle.reader.proofs.OneByte.{one_byte}
+
+-- the test was not passed
+pub not_passed : {A : Type 0} → false ≡ true → A
+not_passed e = cc
 
 -- the bytes from an offset on
 abbrev bytes_from : List ℕ → (at : ℕ) → List ℕ
