@@ -5,9 +5,9 @@ use borrow.Rule.Slice.PartMut.{put_mid}
 use lib.Seq.{take-append-le}
 
 -- a bytes stood in front of xs, n are read into the k behind them, and m is both
-pub read_behind : (a k n m : ℕ) (xs ys : List ℕ) → m ≡ a + n → a ≤ length xs → n ≤ length ys
+pub read_in_front : (a k n m : ℕ) (xs ys : List ℕ) → m ≡ a + n → a ≤ length xs → n ≤ length ys
     → take a xs ++ take n ys ≡ take m (put_mid a k xs ys)
-read_behind a k n m xs ys both within fits =
+read_in_front a k n m xs ys both within fits =
     let all : List ℕ = put_mid a k xs ys in
     let front : take a all ≡ take a xs = take-put_mid_below a k xs ys a (le_refl a) within in
     let read : take n (drop a all) ≡ take n ys =

@@ -3,7 +3,7 @@ use Rattle.std.proofs.Common.{ℕ, ◌<◌, List, length, take, Option, Result, 
 use Rattle.std.specs.Io.KnownBytes.{Consumes}
 use Rattle.std.proofs.KnownBytes.{Consumes-kept, Consumes-trans}
 use Rattle.std.proofs.lemmas.Slice.{take-put_mid_below}
-use Rattle.input.proofs.Reading.{read_behind}
+use Rattle.input.proofs.Reading.{read_in_front}
 use Rattle.input.proofs.read_full.Goals as goal
 
 -- what an error says of the n bytes in front
@@ -26,5 +26,5 @@ loop-done-preserved g c =
     record {
       same = search rules;
       within = search rules;
-      taken = subst (Consumes _ _) (read_behind _ _ _ _ _ _ (search rules) before.within read.bound.0) both;
+      taken = subst (Consumes _ _) (read_in_front _ _ _ _ _ _ (search rules) before.within read.bound.0) both;
     }
