@@ -1,5 +1,6 @@
 -- Of the lent tables: a row that is not whole is not there; what was put is found again, and all else is as it was.
-use Rattle.std.proofs.Common.{◌≡◌, ℕ, suc, ◌+◌, ◌*◌, ◌/◌, ◌<◌, ◌≤◌, Bool, true, false, not, eqb, nat_le, Option, Some, None, List, length, get_or, set, refl, ◌∙◌, arith, le-ltb, lt-ltb, ne_eqb}
+use Rattle.std.proofs.Common.{◌≡◌, ℕ, suc, ◌+◌, ◌*◌, ◌/◌, ◌<◌, ◌≤◌, Bool, true, false, not, eqb}
+use Rattle.std.proofs.Common.{nat_le, Option, Some, None, List, length, get_or, set, refl, ◌∙◌, arith, le-ltb, lt-ltb, ne_eqb}
 use Rattle.std.proofs.lemmas.Grind.{common_steps}
 use native.Mathlib.Decide.{dec_lt}
 use Rattle.std.specs.Int.{from_bool}

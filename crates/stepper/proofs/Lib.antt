@@ -12,5 +12,6 @@ pub mod Does
 pub mod Follows
 pub mod NextStep
 pub mod RunSteps
+pub mod RowWalk
 pub mod NeverGoes
 pub mod Onward
