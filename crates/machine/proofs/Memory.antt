@@ -105,12 +105,28 @@ pub record Four (t : List ℕ) (i a b c d : ℕ) : Type 0 where
   pub third_is : in_row t i 2 ≡ c
   pub fourth_is : in_row t i 3 ≡ d
 
--- rows below h are as they were, and so are their frames
+-- frames below h are as they were
 pub record SameBelow (h : ℕ) (t t' : List ℕ) : Type 0 where
+  pub frame_same : (i : ℕ) → i < h → frame_at t' i ≡ frame_at t i
+
+-- rows below h are as they were, and so are their frames
+pub record RowsBelow (h : ℕ) (t t' : List ℕ) : Type 0 where
   pub row_same : (i j : ℕ) → i < h → j < 4 → in_row t' i j ≡ in_row t i j
   pub frame_same : (i : ℕ) → i < h → frame_at t' i ≡ frame_at t i
 
-pub four_below : {h i a b c d : ℕ} {t t' : List ℕ} → SameBelow h t t' → i < h → Four t i a b c d → Four t' i a b c d
+pub frames_below : {h : ℕ} {t t' : List ℕ} → RowsBelow h t t' → SameBelow h t t'
+frames_below s = record { frame_same = s.frame_same }
+
+-- the rows' numbers tell it all
+pub rows_below : {h : ℕ} {t t' : List ℕ} → ((i j : ℕ) → i < h → j < 4 → in_row t' i j ≡ in_row t i j) → RowsBelow h t t'
+unfolding frame_at
+rows_below same =
+    record {
+      row_same = same;
+      frame_same = λ i l. rw (same i 0 l (omega arith), same i 1 l (omega arith), same i 2 l (omega arith), same i 3 l (omega arith));
+    }
+
+pub four_below : {h i a b c d : ℕ} {t t' : List ℕ} → RowsBelow h t t' → i < h → Four t i a b c d → Four t' i a b c d
 four_below {i = i} s l f =
     record {
       first_is = s.row_same i 0 l (omega arith) ∙ f.first_is;
@@ -119,25 +135,17 @@ four_below {i = i} s l f =
       fourth_is = s.row_same i 3 l (omega arith) ∙ f.fourth_is;
     }
 
-below : (t t' : List ℕ) (h : ℕ) → length t' ≡ length t → ((k : ℕ) → k < 4 * h → get_or t' k 0 ≡ get_or t k 0) → SameBelow h t t'
-unfolding frame_at in_row
-below t t' h e same =
-    record {
-      row_same = λ i j l m. rw (e, same (4 * i + j) (omega arith));
-      frame_same = λ i l.
-          rw (
-            e,
-            same (4 * i + 0) (omega arith),
-            same (4 * i + 1) (omega arith),
-            same (4 * i + 2) (omega arith),
-            same (4 * i + 3) (omega arith),
-          );
-    }
+below : (t t' : List ℕ) (h : ℕ) → length t' ≡ length t → ((k : ℕ) → k < 4 * h → get_or t' k 0 ≡ get_or t k 0) → RowsBelow h t t'
+unfolding in_row
+below t t' h e same = rows_below (λ i j l m. rw (e, same (4 * i + j) (omega arith)))
 
 module _ (t : List ℕ) (i node : ℕ) (inside : Bool) where
-  pub framed_below : SameBelow i t (framed t i node inside)
+  pub rows_framed : RowsBelow i t (framed t i node inside)
   unfolding framed
-  framed_below = below t (framed t i node inside) i (length_framed t i node inside) (λ k l. grind (arith, common_steps))
+  rows_framed = below t (framed t i node inside) i (length_framed t i node inside) (λ k l. grind (arith, common_steps))
+
+  pub framed_below : SameBelow i t (framed t i node inside)
+  framed_below = frames_below rows_framed
 
   pub four_framed : i < length t / 4 → Four (framed t i node inside) i node (from_bool inside) 0 0
   unfolding framed in_row
@@ -155,9 +163,12 @@ module _ (t : List ℕ) (i node : ℕ) (inside : Bool) where
       frame_of (framed t i node inside) i {c = 0} {d = 0} inside f.first_is f.second_is f.third_is f.fourth_is
 
 module _ (t : List ℕ) (i : ℕ) (v : CodedValue) where
-  pub kept_below : SameBelow i t (kept t i v)
+  pub rows_kept : RowsBelow i t (kept t i v)
   unfolding kept
-  kept_below = below t (kept t i v) i (length_kept t i v) (λ k l. grind (arith, common_steps))
+  rows_kept = below t (kept t i v) i (length_kept t i v) (λ k l. grind (arith, common_steps))
+
+  pub kept_below : SameBelow i t (kept t i v)
+  kept_below = frames_below rows_kept
 
   -- the node and its mode stay, and the value is found again
   row_kept : i < length t / 4 → Four (kept t i v) i (in_row t i 0) (in_row t i 1) v.value v.code
